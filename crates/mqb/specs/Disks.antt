@@ -14,5 +14,10 @@ no_disk_view d = record {
   calls = d.calls;
   faults = d.faults;
   reached = d.reached;
-  switch = record { arms = d.arms; restarts = d.restarts; last_pick = d.last_pick; last_left = option_map (λ pick. []) d.last_pick };
+  switch = record {
+    arms = d.arms;
+    restarts = d.restarts;
+    last_pick = d.last_pick;
+    last_left = option_map (λ pick. []) d.last_pick;
+  };
 }

@@ -165,7 +165,8 @@ fn may_have_changed(ending: &Ending<'_>) -> bool {
     ending.asked.has_store() && !changes_nothing && ending.fault.is_none()
 }
 
-/// Says why a command ended so, and where it may have changed its store all the same, how to see that.
+/// Says why a command ended so, and where it may have changed its store all the
+/// same, how to see that.
 fn say_cut_off(rt: &HostRuntime, ending: &Ending<'_>, why: &str) -> io::Result<()> {
     eprintln!(rt; "mqb: {why}")?;
     if may_have_changed(ending) {

@@ -24,7 +24,8 @@ use std::rt::Env;
 use std::time::Duration;
 use std::{env, io, thread};
 
-/// The words of the command line, without the program's name; none where one is not UTF-8, since no command has such a word.
+/// The words of the command line, without the program's name; none where one is not UTF-8, since no
+/// command has such a word.
 fn words_of(rt: &(impl Env + AllocGlobal), alloc: Global) -> Result<Vec<String>, Memory> {
     let mut words = Vec::new(alloc);
     match env::args(rt) {
@@ -52,7 +53,8 @@ enum Disks {
     None(Option<OpenFault>),
 }
 
-/// Opens the file that is the store of a command. `init` makes it where it is not there, and what only reads it shares it.
+/// Opens the file that is the store of a command. `init` makes it where it is not there, and what
+/// only reads it shares it.
 fn open(rt: &HostRuntime, command: &Command, store: &str) -> Result<FileDisk, OpenFault> {
     match command {
         Command::Init { .. } => FileDisk::create(rt, store),
@@ -66,7 +68,8 @@ const TRIES: u64 = 10;
 
 const PAUSE: u64 = 100;
 
-/// Opens the store of a command, for so many seconds again and again while another program holds it.
+/// Opens the store of a command, for so many seconds again and again while
+/// another program holds it.
 fn open_within(
     rt: &HostRuntime,
     command: &Command,
@@ -216,7 +219,8 @@ fn run_words(rt: &HostRuntime, alloc: Global) -> Result<Status, Memory> {
     }
 }
 
-/// Holds an empty file for each standard stream that is closed. Else the store would get the number of that stream, and with it what is written there.
+/// Holds an empty file for each standard stream that is closed. Else the store would get the number
+/// of that stream, and with it what is written there.
 fn hold_streams(rt: &HostRuntime) -> [io::Result<File>; 3] {
     let empty = "/dev/null";
     [

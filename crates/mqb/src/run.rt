@@ -1,7 +1,8 @@
 ghost use Rattle.std.specs.Prelude.{◌≡◌, ◌⊎◌, [], false, map, IfSome, Some};
 ghost use Rattle.std.specs.String.{string_bytes};
 ghost use Rattle.mqb.specs.Completeness.{Completes};
-ghost use Rattle.mqb.specs.Runs.{Asks, DiskCause, Does, IsDiskFaultOf, NetCause, Outside, Runs, UsageHasCause};
+ghost use Rattle.mqb.specs.Runs.{Asks, DiskCause, Does, IsDiskFaultOf, NetCause, Outside};
+ghost use Rattle.mqb.specs.Runs.{Runs, UsageHasCause};
 ghost use Rattle.mqb.specs.Uses.{has_input, has_net, has_script};
 ghost use Rattle.mqb_connections.specs.Causes.{NetFaultHasCause};
 ghost use Rattle.mqb_replay.specs.Devices.{devices};
@@ -122,8 +123,9 @@ fn run_command<S: Source, K: Sink, D: Disk, P: Power, M: Medium, N: PatientNet, 
     }
 }
 
-/// Does what the words of a command line ask for. `disk` is the store of a command that has one; `first` and `second` are those of alpha and beta in a replay, and
-/// `medium`, which is empty, keeps its packets.
+/// Does what the words of a command line ask for. `disk` is the store of a command that has
+/// one; `first` and `second` are those of alpha and beta in a replay, and `medium`, which is
+/// empty, keeps its packets.
 pub fn run<S: Source, K: Sink, D: Disk, P: Power, M: Medium, N: PatientNet, C: Clock>(
     alloc: Global,
     words: &[String],

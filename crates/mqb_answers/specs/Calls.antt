@@ -17,12 +17,17 @@ abbrev pub IsPrinted : List Identity → (before after : List ℕ) → CallEnd �
 IsPrinted hosts before after end t = (end ≡ t.end) × (after ≡ before ++ told_text hosts t)
 
 -- What is told is printed whole, or memory runs out and nothing is.
-abbrev pub Tells : List Identity → Result Told AnswerFault → (before after : List ℕ) → Result CallEnd AnswerFault → Type 0
-Tells hosts (Ok t) before after r = ((r ≡ Ok t.end) × (after ≡ before ++ told_text hosts t)) ⊎ ((r ≡ Err fault.Memory) × (after ≡ before))
+abbrev pub Tells : List Identity → Result Told AnswerFault → (before after : List ℕ)
+    → Result CallEnd AnswerFault → Type 0
+Tells hosts (Ok t) before after r = ((r ≡ Ok t.end) × (after ≡ before ++ told_text hosts t))
+    ⊎ ((r ≡ Err fault.Memory) × (after ≡ before))
 Tells hosts (Err why) before after r = (r ≡ Err why) × (after ≡ before)
 
--- A call that was made and told, from before it to behind it. `kept` says that the disk is as it was. Where memory runs out, the call may have been made.
-pub record IsTold (d e : View) (kept : Type 0) (m n : ManagerState) (o : Outcome (Result Told AnswerFault)) (before after : List ℕ) (r : Result CallEnd AnswerFault) : Type 0 where
+-- A call that was made and told, from before it to behind it. `kept` says that the disk is as it
+-- was. Where memory runs out, the call may have been made.
+pub record IsTold (d e : View) (kept : Type 0) (m n : ManagerState)
+    (o : Outcome (Result Told AnswerFault)) (before after : List ℕ)
+    (r : Result CallEnd AnswerFault) : Type 0 where
   -- what the manager answered, as it is told
   pub answer : Result Told AnswerFault
   pub call : IsCall fault.Memory fault.DiskFault d e m n o answer

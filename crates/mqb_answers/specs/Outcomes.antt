@@ -3,7 +3,8 @@ use Rattle.std.specs.Prelude.{IsOk, Result, ℕ}
 use Rattle.mqb_answers.specs.Told.{answer_told, peer_told}
 use Rattle.mqb_answers.specs.declared.told.Told.{Told}
 use Rattle.mqb_model.specs.calls.AddPeer.{add_peer}
-use Rattle.mqb_model.specs.calls.Call.{Commit, CreateQueue, Purge, Request, Send, Set, Take, Tick, requested}
+use Rattle.mqb_model.specs.calls.Call.{Commit, CreateQueue, Purge, Request, Send, Set, Take}
+use Rattle.mqb_model.specs.calls.Call.{Tick, requested}
 use Rattle.mqb_model.specs.managers.Manager.{Manager}
 use Rattle.mqb_model.specs.managers.Outcomes.{Outcome, lines_after}
 use Rattle.mqb_model.specs.records.Record.{Roll}
@@ -13,12 +14,14 @@ use Rattle.mqb_words.specs.declared.commands.Call.{Call}
 use Rattle.mqb_words.specs.declared.commands.Call.TheVariants as call
 
 -- what is told of a call's answer
-abbrev pub told_by : {A : Type 0} → (A → Result Told AnswerFault) → Outcome A → Outcome (Result Told AnswerFault)
+abbrev pub told_by : {A : Type 0} → (A → Result Told AnswerFault) → Outcome A
+    → Outcome (Result Told AnswerFault)
 told_by told o = told_as o (told o.answer)
 
 -- what a request comes to, told with the lines of its record
 abbrev pub asked_told : Manager → Request → Outcome (Result Told AnswerFault)
-asked_told m request = told_by (λ a. answer_told a (lines_after m (requested m request))) (requested m request)
+asked_told m request =
+    told_by (λ a. answer_told a (lines_after m (requested m request))) (requested m request)
 
 -- what a manager's call comes to at a moment
 abbrev pub outcome_of : Call → Manager → ℕ → Outcome (Result Told AnswerFault)

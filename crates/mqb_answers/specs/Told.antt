@@ -1,6 +1,7 @@
 -- What is told of what a manager's calls answer.
 use Rattle.std.specs.List.{filter_map}
-use Rattle.std.specs.Prelude.{[], ◌∷◌, Bool, Err, List, None, Ok, Option, Result, Some, if◌then◌else◌, ℕ}
+use Rattle.std.specs.Prelude.{[], ◌∷◌, Bool, Err, List, None, Ok, Option, Result, Some}
+use Rattle.std.specs.Prelude.{if◌then◌else◌, ℕ}
 use Rattle.mqb_answers.specs.declared.told.CallEnd.{CallEnd}
 use Rattle.mqb_answers.specs.declared.told.CallEnd.TheVariants.{Done, Refused}
 use Rattle.mqb_answers.specs.declared.told.Said.{Said}

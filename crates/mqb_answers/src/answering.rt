@@ -58,11 +58,13 @@ fn tell_call<D: Disk>(
     }
 }
 
-/// Makes a call of a store command at a moment in seconds, and appends what is printed of it: the line of its reply, and one for each message that
-/// was taken. The manager and its peers are printed as their hosts.
+/// Makes a call of a store command at a moment in seconds, and appends what is printed of it: the
+/// line of its reply, and one for each message that was taken. The manager and its peers are
+/// printed as their hosts.
 ///
 /// # Errors
-/// `Memory`: the call was made, or it was not; `out` is as before. `DiskFault`: the manager is down.
+/// `Memory`: the call was made, or it was not; `out` is as before. `DiskFault`:
+/// the manager is down.
 pub fn answer<D: Disk>(
     alloc: Global,
     manager: &mut Manager,

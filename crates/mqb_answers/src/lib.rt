@@ -1,6 +1,7 @@
 //! What a manager answers to a call of a store command, as the text that is printed.
 //!
-//! Of the definitions, `Outcomes` has what a call comes to, `Told` what is told of it, and `Texts` its text.
+//! Of the definitions, `Outcomes` has what a call comes to, `Told` what is told of it,
+//! and `Texts` its text.
 #![tactic(auto)]
 
 mod answering;

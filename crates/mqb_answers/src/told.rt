@@ -1,6 +1,8 @@
-//! What is told of what a manager's calls answer. `lines` are those of the call's record, and none where it wrote none.
+//! What is told of what a manager's calls answer. `lines` are those of the call's record, and none
+//! where it wrote none.
 ghost use Rattle.std.specs.Prelude.{◌≡◌};
-ghost use Rattle.mqb_answers.specs.Told.{answer_told, end_by, peer_fault_told, peer_told, taken_by, told_line, told_reply};
+ghost use Rattle.mqb_answers.specs.Told.{answer_told, end_by, peer_fault_told, peer_told, taken_by};
+ghost use Rattle.mqb_answers.specs.Told.{told_line, told_reply};
 ghost use Rattle.mqb_replies.specs.Requests.{seen_answer};
 
 use mqb_base::{Line, Message};

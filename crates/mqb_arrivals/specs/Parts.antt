@@ -13,7 +13,8 @@ is_part_fit s part = option_map_or (part_fits s) part false
 
 -- It is there and fits, and what follows it was done.
 abbrev pub IsPartMade : ℕ → Effect → Option Part → Effect → Type 0
-IsPartMade now e part after = IsSomeAnd part (λ p. (part_fits e.state p ≡ true) × (after ≡ part_made now e p))
+IsPartMade now e part after =
+    IsSomeAnd part (λ p. (part_fits e.state p ≡ true) × (after ≡ part_made now e p))
 
 -- Few messages came in: at most three for each that the part names.
 abbrev pub IsFewOf : State → Option Part → ℕ → ℕ → Type 0

@@ -2,7 +2,9 @@ ghost use Rattle.std.specs.Prelude.{◌+◌, ◌<◌, ◌≡◌, ◌≤◌, IfOk
 ghost use Rattle.std.specs.Option.{option_map_or};
 ghost use Rattle.mqb_contents.specs.Rooms.{IsGrown};
 ghost use Rattle.mqb_fate.specs.Asking.{is_ordinary};
-ghost use Rattle.mqb_model.specs.records.Decisions.{decided_fits, decided_line, is_next, message_decided, message_stored, stored_line, with_decided};
+ghost use Rattle.mqb_model.specs.records.Decisions.{decided_fits, decided_line, is_next};
+ghost use Rattle.mqb_model.specs.records.Decisions.{message_decided, message_stored};
+ghost use Rattle.mqb_model.specs.records.Decisions.{stored_line, with_decided};
 ghost use Rattle.mqb_model.specs.rules.Effects.{joined, with_line, without_line};
 ghost use Rattle.mqb_model.specs.state.Rows.{in_index, in_row};
 ghost use Rattle.mqb_orders.specs.Judging.{verdict_of};

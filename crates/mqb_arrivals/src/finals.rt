@@ -1,7 +1,9 @@
-ghost use Rattle.std.specs.Prelude.{◌+◌, ◌<◌, ◌≡◌, ◌≤◌, IfSome, OnOk, Some, length, position, slice_get};
+ghost use Rattle.std.specs.Prelude.{◌+◌, ◌<◌, ◌≡◌, ◌≤◌, IfSome, OnOk, Some, length};
+ghost use Rattle.std.specs.Prelude.{position, slice_get};
 ghost use Rattle.std.specs.Option.{IsSomeAnd, option_map_or};
 ghost use Rattle.mqb_contents.specs.Rooms.{IsGrown};
-ghost use Rattle.mqb_model.specs.records.Finals.{dead_for, final_stored, finished_at, finished_by, has_named, is_final, is_offered_as, with_finished};
+ghost use Rattle.mqb_model.specs.records.Finals.{dead_for, final_stored, finished_at, finished_by};
+ghost use Rattle.mqb_model.specs.records.Finals.{has_named, is_final, is_offered_as, with_finished};
 ghost use Rattle.mqb_model.specs.rules.Effects.{joined, without_line};
 ghost use Rattle.mqb_model.specs.state.Resolving.{peer_known};
 ghost use Rattle.mqb_orders.specs.Rows.{row_of};
@@ -97,7 +99,8 @@ fn finish_in(draft: &mut Draft, message: &Message, row: u32) -> Result<(), Memor
     take_out(draft, message.correlation, row, index)
 }
 
-/// The message that an acknowledgement names is done with, where it was offered to the acknowledgement's source.
+/// The message that an acknowledgement names is done with, where it was offered to the
+/// acknowledgement's source.
 fn finish(draft: &mut Draft, message: &Message) -> Result<(), Memory>
     ensures ok { OnOk result (draft.new.effect ≡ without_line draft.old.effect (option_map_or
         (λ peer. finished_by draft.old.effect.state peer message.now)

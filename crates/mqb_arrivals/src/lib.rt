@@ -1,4 +1,5 @@
-//! What arrives, tried in a draft: releases, order acknowledgements, messages that are decided or stored, and final acknowledgements.
+//! What arrives, tried in a draft: releases, order acknowledgements, messages that are decided or
+//! stored, and final acknowledgements.
 //!
 //! A draft that answers a fault is half changed: `Draft::take_back` takes all of it back.
 #![tactic(auto)]

@@ -53,7 +53,8 @@ fn copied(message: &Message, to: Guid) -> Result<Option<UserPacket>, Memory>
     }))
 }
 
-/// The user packet that a packet of an entry is, in whatever spelling. Only one that is given by its bytes alone is read.
+/// The user packet that a packet of an entry is, in whatever spelling. Only one that is given by
+/// its bytes alone is read.
 pub fn user_packet_of(alloc: Global, packet: &PacketSlice<'_>) -> Result<Option<UserPacket>, Memory>
     ensures user { IfOk result (λ user. user ≡ user_packet_of packet.now) }
     ensures well_formed { IfOk result (λ user. IfSome user IsWellFormedUser) }

@@ -1,7 +1,10 @@
-ghost use Rattle.std.specs.Prelude.{◌<◌, ◌≡◌, ◌≤◌, Err, IfSome, None, OnOk, Some, false, length, option_and_then, option_map, position, slice_get, true};
+ghost use Rattle.std.specs.Prelude.{◌<◌, ◌≡◌, ◌≤◌, Err, IfSome, None, OnOk, Some, false, length};
+ghost use Rattle.std.specs.Prelude.{option_and_then, option_map, position, slice_get, true};
 ghost use Rattle.mqb_base.specs.Same.{same_id};
 ghost use Rattle.mqb_contents.specs.Rooms.{IsGrown};
-ghost use Rattle.mqb_model.specs.records.Releases.{has_recoverable, is_released_by, message_released, release_fits, without_released};
+ghost use Rattle.mqb_model.specs.records.Releases.{has_recoverable, is_released_by};
+ghost use Rattle.mqb_model.specs.records.Releases.{message_released, release_fits};
+ghost use Rattle.mqb_model.specs.records.Releases.{without_released};
 ghost use Rattle.mqb_model.specs.records.Stepwise.{releases_stepwise};
 ghost use Rattle.mqb_model.specs.rules.Effects.{without_line};
 ghost use Rattle.mqb_model.specs.rules.Numbers.{own_id};

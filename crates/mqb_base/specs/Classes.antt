@@ -19,8 +19,10 @@ use Rattle.mqb_base.specs.declared.class.TheConstants.Class.{
 
 -- the classes that a message may have
 abbrev pub classes : List ℕ
-classes = NORMAL.0 ∷ REACHED_QUEUE.0 ∷ ORDER_ACKNOWLEDGEMENT.0 ∷ RECEIVED.0 ∷ BAD_DESTINATION.0 ∷ PURGED_AT_SOURCE.0 ∷ REACH_TIMEOUT.0
-    ∷ QUOTA_EXCEEDED.0 ∷ QUEUE_NOT_TRANSACTIONAL.0 ∷ MESSAGE_NOT_TRANSACTIONAL.0 ∷ QUEUE_DELETED.0 ∷ QUEUE_PURGED.0 ∷ RECEIVE_TIMEOUT.0 ∷ []
+classes = NORMAL.0 ∷ REACHED_QUEUE.0 ∷ ORDER_ACKNOWLEDGEMENT.0 ∷ RECEIVED.0 ∷ BAD_DESTINATION.0
+    ∷ PURGED_AT_SOURCE.0 ∷ REACH_TIMEOUT.0
+    ∷ QUOTA_EXCEEDED.0 ∷ QUEUE_NOT_TRANSACTIONAL.0 ∷ MESSAGE_NOT_TRANSACTIONAL.0 ∷ QUEUE_DELETED.0
+    ∷ QUEUE_PURGED.0 ∷ RECEIVE_TIMEOUT.0 ∷ []
 
 abbrev pub is_class : ℕ → Bool
 is_class class = list_any (λ c. c == class) classes

@@ -1,7 +1,8 @@
 use Rattle.std.specs.Prelude.{ℕ, Bool, not, nat_lt, length, Option, Some, None, if◌then◌else◌}
 use Rattle.mqb_base.specs.declared.draft.Parts.{Parts}
 use Rattle.mqb_base.specs.declared.draft.DraftFault.{DraftFault}
-use Rattle.mqb_base.specs.declared.draft.DraftFault.TheVariants.{Destination, Priority, Admin, Response, Ack, Journal, Label}
+use Rattle.mqb_base.specs.declared.draft.DraftFault.TheVariants.{Destination, Priority, Admin}
+use Rattle.mqb_base.specs.declared.draft.DraftFault.TheVariants.{Response, Ack, Journal, Label}
 use Rattle.mqb_base.specs.declared.bits.TheConstants.{MAX_ACK, MAX_JOURNAL}
 use Rattle.mqb_base.specs.declared.message.TheConstants.{MAX_PRIORITY, MAX_LABEL}
 use Rattle.mqb_base.specs.QueueNames.{names_queue, absent_or_queue}

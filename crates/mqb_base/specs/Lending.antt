@@ -5,4 +5,5 @@ use Rattle.mqb_base.specs.contracts.roomed.Roomed as roomed
 
 -- what is last written behind the reference is the member at a place, and every other member stays
 abbrev pub LendsItem : (R : RattleType) → MutBor (Room R.Denot) → ℕ → MutBor R.Denot → Fml
-LendsItem R l at item = Lends (roomed.the_row R) R l item (λ w. record l.now { items = slice_set l.now.items at w })
+LendsItem R l at item =
+    Lends (roomed.the_row R) R l item (λ w. record l.now { items = slice_set l.now.items at w })

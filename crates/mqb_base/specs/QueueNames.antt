@@ -1,6 +1,7 @@
 use Rattle.std.specs.Prelude.{Bool, true, false, not, Option, Some, None}
 use Rattle.mqb_base.specs.declared.queue_names.QueueName.{QueueName}
-use Rattle.mqb_base.specs.declared.queue_names.QueueName.TheVariants.{Public, Private, Direct, Machine}
+use Rattle.mqb_base.specs.declared.queue_names.QueueName.TheVariants.{Public, Private}
+use Rattle.mqb_base.specs.declared.queue_names.QueueName.TheVariants.{Direct, Machine}
 
 -- it names a queue, and neither a queue's journal nor a machine's queue
 abbrev pub names_queue : QueueName → Bool

@@ -6,9 +6,11 @@ use Rattle.mqb_base.specs.declared.ids.MessageId.{MessageId}
 use Rattle.mqb_base.specs.declared.queue_names.Host.{Host}
 use Rattle.mqb_base.specs.declared.queue_names.Host.TheVariants.{Os, Tcp}
 use Rattle.mqb_base.specs.declared.queue_names.MachineQueue.{MachineQueue}
-use Rattle.mqb_base.specs.declared.queue_names.MachineQueue.TheVariants.{DeadLetter, DeadXact, Journal}
+use Rattle.mqb_base.specs.declared.queue_names.MachineQueue.TheVariants.{DeadLetter, DeadXact}
+use Rattle.mqb_base.specs.declared.queue_names.MachineQueue.TheVariants.{Journal}
 use Rattle.mqb_base.specs.declared.queue_names.QueueName.{QueueName}
-use Rattle.mqb_base.specs.declared.queue_names.QueueName.TheVariants.{Public, Private, Direct, Machine}
+use Rattle.mqb_base.specs.declared.queue_names.QueueName.TheVariants.{Public, Private}
+use Rattle.mqb_base.specs.declared.queue_names.QueueName.TheVariants.{Direct, Machine}
 
 -- tests of equality
 

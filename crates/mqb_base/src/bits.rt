@@ -13,7 +13,8 @@ pub const NEGATIVE_RECEIVE: u8 = 8;
 /// All bits of `Message::ack` together.
 pub const MAX_ACK: u8 = 15;
 
-/// The bits of `Message::journal`: what could not be delivered is kept in a dead-letter queue, and what is sent is kept in the computer's journal.
+/// The bits of `Message::journal`: what could not be delivered is kept in a dead-letter queue, and
+/// what is sent is kept in the computer's journal.
 pub const DEAD_LETTER: u8 = 1;
 
 pub const JOURNAL: u8 = 2;

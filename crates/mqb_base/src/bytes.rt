@@ -8,8 +8,8 @@ use std::alloc::{AllocError, Global};
 use std::marker::Model;
 use std::rc::RcSlice;
 
-/// A list of bytes, such as a body or an extension. Contracts see the list. A clone shares the bytes, so a message is
-/// copied without its body.
+/// A list of bytes, such as a body or an extension. Contracts see the list. A clone shares the
+/// bytes, so a message is copied without its body.
 #[derive(Debug, Drop)]
 pub struct Bytes {
     items: RcSlice<u8>,

@@ -1,8 +1,8 @@
 ghost use Rattle.std.specs.Prelude.{◌≡◌};
 ghost use Rattle.mqb_base.specs.Classes.{is_class, is_negative, is_receive, is_arrival_refusal};
 
-/// The class of a message: 0 for an ordinary one, otherwise what an acknowledgement says. Bit 15 is set in negative ones, and bit 14 in those
-/// that speak of receiving rather than of arrival.
+/// The class of a message: 0 for an ordinary one, otherwise what an acknowledgement says. Bit 15 is
+/// set in negative ones, and bit 14 in those that speak of receiving rather than of arrival.
 #[derive(Clone, Copy, Debug, PartialEq, Eq, Hash)]
 pub struct Class(pub u16);
 

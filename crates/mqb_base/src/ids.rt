@@ -1,11 +1,12 @@
 use crate::names::Name;
 
-/// A GUID, its bytes in the order of its text. In packets and stores its first three numbers are little-endian.
+/// A GUID, its bytes in the order of its text. In packets and stores its first three
+/// numbers are little-endian.
 #[derive(Clone, Copy, Debug, PartialEq, Eq, Hash)]
 pub struct Guid(pub [u8; 16]);
 
-/// The identifier of a message: its source manager, and a number of that manager. Durable messages have numbers from 1 to 0x7FFFFFFF, and
-/// express ones from 0x80000000 on.
+/// The identifier of a message: its source manager, and a number of that manager. Durable messages
+/// have numbers from 1 to 0x7FFFFFFF, and express ones from 0x80000000 on.
 #[derive(Clone, Copy, Debug, PartialEq, Eq, Hash)]
 pub struct MessageId {
     pub qm: Guid,

@@ -1,7 +1,8 @@
 //! The values of a queue manager.
 //!
-//! Every other crate stands on this one. The values are plain data: a contract sees a `Name`, `Bytes` or `Units` as the list of its members, so
-//! that equal values are equal in every field. `Roomed` is the list with room that the lists of a manager are made of.
+//! Every other crate stands on this one. The values are plain data: a contract sees a `Name`,
+//! `Bytes` or `Units` as the list of its members, so that equal values are equal in every field.
+//! `Roomed` is the list with room that the lists of a manager are made of.
 #![tactic(auto)]
 
 mod answers;

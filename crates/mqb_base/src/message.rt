@@ -16,7 +16,8 @@ pub const MAX_PRIORITY: u8 = 7;
 /// The most UTF-16 units of a label.
 pub const MAX_LABEL: usize = 250;
 
-/// How a message travels: express ones are lost in a restart, recoverable ones may come twice, transactional ones come once and in order.
+/// How a message travels: express ones are lost in a restart, recoverable ones may come twice,
+/// transactional ones come once and in order.
 #[derive(Clone, Copy, Debug, PartialEq, Eq)]
 pub enum Delivery {
     Express,
@@ -43,8 +44,9 @@ impl Delivery {
     }
 }
 
-/// A message. Moments are seconds since 1970. `reach` and `life` are seconds from `sent` on, within which it is to reach its queue and to be
-/// received; `UNLIMITED` is without limit. The bits of `ack` are `POSITIVE_ARRIVAL` and so on, those of `journal` are `DEAD_LETTER` and `JOURNAL`.
+/// A message. Moments are seconds since 1970. `reach` and `life` are seconds from `sent` on, within
+/// which it is to reach its queue and to be received; `UNLIMITED` is without limit. The bits of
+/// `ack` are `POSITIVE_ARRIVAL` and so on, those of `journal` are `DEAD_LETTER` and `JOURNAL`.
 #[derive(Debug, PartialEq, Eq, Drop)]
 pub struct Message {
     pub id: MessageId,

@@ -17,7 +17,8 @@ use thiserror::Error;
 /// The most bytes of a name.
 pub const MAX_NAME: usize = 64;
 
-/// The name of a host or a queue: 1 to 64 bytes from 0x21 to 0x7E without `\`, `;`, `=` and `,`. Contracts see the list of its bytes. A clone shares them.
+/// The name of a host or a queue: 1 to 64 bytes from 0x21 to 0x7E without `\`, `;`, `=` and `,`.
+/// Contracts see the list of its bytes. A clone shares them.
 #[derive(Debug, Drop)]
 pub struct Name {
     bytes: RcSlice<u8>,

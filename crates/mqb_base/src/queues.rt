@@ -1,8 +1,8 @@
 use crate::ids::Guid;
 use crate::names::Name;
 
-/// What a queue is to be. `public` is the GUID under which it is registered, `quota` its greatest length, and with `journal` it keeps copies of
-/// what is taken.
+/// What a queue is to be. `public` is the GUID under which it is registered, `quota` its greatest
+/// length, and with `journal` it keeps copies of what is taken.
 #[derive(Clone, Debug, PartialEq, Eq, Drop)]
 pub struct QueuePlan {
     pub name: Name,
@@ -12,7 +12,8 @@ pub struct QueuePlan {
     pub journal: bool,
 }
 
-/// A list of messages of one manager: a queue, its journal, the dead-letter queue, the transactional one, or the computer's journal.
+/// A list of messages of one manager: a queue, its journal, the dead-letter queue, the
+/// transactional one, or the computer's journal.
 #[derive(Clone, Debug, PartialEq, Eq, Drop)]
 pub enum Place {
     Queue(Name),
@@ -22,7 +23,8 @@ pub enum Place {
     Journal,
 }
 
-/// A list of messages of one manager as its store names it: a queue by its number, which is its place among the queues, from 1.
+/// A list of messages of one manager as its store names it: a queue by its number, which is its
+/// place among the queues, from 1.
 #[derive(Clone, Copy, Debug, PartialEq, Eq)]
 pub enum EntryPlace {
     Queue(u32),

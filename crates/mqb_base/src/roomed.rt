@@ -1,4 +1,5 @@
-ghost use Rattle.std.specs.Prelude.{◌≡◌, ◌==◌, ◌+◌, ◌<◌, ◌≤◌, ◌-◌, [], ◌∷◌, ◌++◌, length, max, insert, remove, drop, take, slice_get, Some, IsOk, OnOk, OnErr};
+ghost use Rattle.std.specs.Prelude.{◌≡◌, ◌==◌, ◌+◌, ◌<◌, ◌≤◌, ◌-◌, [], ◌∷◌, ◌++◌, length, max};
+ghost use Rattle.std.specs.Prelude.{insert, remove, drop, take, slice_get, Some, IsOk, OnOk, OnErr};
 ghost use Rattle.std.specs.Borrow.{sem};
 ghost use Rattle.mqb_base.specs.Lending.{LendsItem};
 
@@ -9,8 +10,8 @@ use std::marker::Model;
 /// The most members of a list that a manager keeps.
 pub const MAX_MEMBERS: usize = 4_294_967_295;
 
-/// A list, and room for more members. Contracts see the members and the room: how many there can be without memory, those that are there
-/// included. Only `make_room` takes memory.
+/// A list, and room for more members. Contracts see the members and the room: how many there can be
+/// without memory, those that are there included. Only `make_room` takes memory.
 #[derive(Debug, Drop)]
 pub struct Roomed<T> {
     items: Vec<T>,

@@ -5,7 +5,8 @@ ghost use Rattle.mqb_base.specs.Sequences.{same_sequence, earlier};
 use crate::ids::SequenceId;
 use crate::queue_names::QueueName;
 
-/// The test `same_name` of the definitions: `==` of names is this test, and it is true of equal names alone.
+/// The test `same_name` of the definitions: `==` of names is this test, and it is true
+/// of equal names alone.
 pub fn same_name(a: &QueueName, b: &QueueName) -> bool
     ensures test { result ≡ same_name a.now b.now }
     ensures equal { (same_name a.now b.now ≡ true) ↔ (a.now ≡ b.now) }

@@ -4,7 +4,8 @@ ghost use Rattle.mqb_base.specs.Times.{remaining, is_due};
 /// The time to reach a queue or to be received that is without limit.
 pub const UNLIMITED: u32 = 0xFFFF_FFFF;
 
-/// The seconds that are left at `now` of `reach` seconds from `moment` on. Moments may go backwards, so more may be left than there was.
+/// The seconds that are left at `now` of `reach` seconds from `moment` on. Moments may go
+/// backwards, so more may be left than there was.
 pub fn remaining(moment: u32, reach: u32, now: u32) -> u32
     ensures left { result ≡ remaining moment reach now }
     // Nothing is left exactly where it is due.

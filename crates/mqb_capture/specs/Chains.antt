@@ -51,7 +51,8 @@ pub record Keeps (chain came : List Link) (n : Link) : Type 0 where
 
 -- the numbers before a place are smaller, and those behind it greater
 abbrev pub StandsBetween : List Link → Link → List Link → Type 0
-StandsBetween front n back = AllByRecursion (λ e. e.tx.number < n.tx.number) front × AllByRecursion (λ e. n.tx.number < e.tx.number) back
+StandsBetween front n back = AllByRecursion (λ e. e.tx.number < n.tx.number) front
+    × AllByRecursion (λ e. n.tx.number < e.tx.number) back
 
 -- The neighbours of a place decide whether a message may come.
 pub record NeighboursDecide (front : List Link) (n : Link) (back came : List Link) : Type 0 where
@@ -61,10 +62,14 @@ pub record NeighboursDecide (front : List Link) (n : Link) (back came : List Lin
   pub linked : AreLinked came
 
 abbrev pub NeighboursAreEnough : Type 0
-NeighboursAreEnough = (front : List Link) (n : Link) (back came : List Link) → NeighboursDecide front n back came
-    → AreLinked (came ++ n ∷ []) ↔ ((n.tx.previous < n.tx.number) × FollowsLast front n × PrecedesFirst n back)
+NeighboursAreEnough =
+    (front : List Link) (n : Link) (back came : List Link) → NeighboursDecide front n back came
+    → AreLinked (came ++ n ∷ [])
+    ↔ ((n.tx.previous < n.tx.number) × FollowsLast front n × PrecedesFirst n back)
 
 -- What comes again is the same, and otherwise it may not come.
 abbrev pub AgainIsTheSame : Type 0
-AgainIsTheSame = (chain came : List Link) (n e : Link) → Keeps chain came n → AreLinked came → AreOfOneSequence e n → RepeatsSome e came → e.tx.number ≡ n.tx.number
-    → AreLinked (came ++ n ∷ []) ↔ ((n.tx.previous ≡ e.tx.previous) × AreSameMessage n.message e.message)
+AgainIsTheSame = (chain came : List Link) (n e : Link) → Keeps chain came n → AreLinked came
+    → AreOfOneSequence e n → RepeatsSome e came → e.tx.number ≡ n.tx.number
+    → AreLinked (came ++ n ∷ [])
+    ↔ ((n.tx.previous ≡ e.tx.previous) × AreSameMessage n.message e.message)

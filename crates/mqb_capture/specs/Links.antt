@@ -1,6 +1,7 @@
 -- The numbers of the transactional packets of class 0 that went one way.
 use Rattle.std.specs.List.{AllByRecursion}
-use Rattle.std.specs.Prelude.{◌≡◌, ◌<◌, ◌≤◌, ◌==◌, List, Option, None, option_map, filter_map, if◌then◌else◌}
+use Rattle.std.specs.Prelude.{◌≡◌, ◌<◌, ◌≤◌, ◌==◌, List, Option, None, option_map}
+use Rattle.std.specs.Prelude.{filter_map, if◌then◌else◌}
 use Rattle.mqb_base.specs.declared.class.TheConstants.Class.{NORMAL}
 use Rattle.mqb_base.specs.declared.message.Message.{Message}
 use Rattle.mqb_packet.specs.declared.packet.Packet.{Packet}
@@ -12,7 +13,8 @@ pub use Rattle.mqb_capture.specs.declared.link.Link.{Link}
 
 -- the message of a packet with its place in a sequence, where it has one
 abbrev pub link_of : Packet → Option Link
-link_of (packet.User p) = if p.message.class.0 == NORMAL.0 then option_map (λ tx. record { message = p.message; tx = tx }) p.tx else None
+link_of (packet.User p) = if p.message.class.0 == NORMAL.0
+    then option_map (λ tx. record { message = p.message; tx = tx }) p.tx else None
 link_of _ = None
 
 -- and which went this way
@@ -34,10 +36,12 @@ pub record AreOfOneSequence (a b : Link) : Type 0 where
 abbrev pub AreSameMessage : Message → Message → Type 0
 AreSameMessage a b = record a { reach = b.reach } ≡ b
 
--- Of two messages of one sequence the later one follows the other, or one that came between them. What comes again is the same.
+-- Of two messages of one sequence the later one follows the other, or one that came between them.
+-- What comes again is the same.
 pub record Fit (a b : Link) : Type 0 where
   pub later : AreOfOneSequence a b → a.tx.number < b.tx.number → a.tx.number ≤ b.tx.previous
-  pub again : AreOfOneSequence a b → a.tx.number ≡ b.tx.number → (a.tx.previous ≡ b.tx.previous) × AreSameMessage a.message b.message
+  pub again : AreOfOneSequence a b → a.tx.number ≡ b.tx.number
+      → (a.tx.previous ≡ b.tx.previous) × AreSameMessage a.message b.message
 
 -- Each message follows a number below its own, and each two of them fit, whichever came first.
 pub record AreLinked (links : List Link) : Type 0 where

@@ -5,7 +5,8 @@ use thiserror::Error;
 /// The greatest length of a piece.
 pub const MAX_PIECE: u32 = 1_048_576;
 
-/// A capture of so many bytes or more is too much: it is inspected up to here, and its end is not seen.
+/// A capture of so many bytes or more is too much: it is inspected up to here, and
+/// its end is not seen.
 pub const MAX_CAPTURE: u64 = 1_073_741_824;
 
 /// Which way bytes went: the end that was captured sent or heard them.
@@ -43,7 +44,8 @@ pub enum Verdict {
     Broken { index: u32, cause: BreakCause },
 }
 
-/// Why there is no verdict: the bytes stop being a capture at a place before which nothing breaks it, there are too many of them, or they or memory cannot be had.
+/// Why there is no verdict: the bytes stop being a capture at a place before which nothing breaks
+/// it, there are too many of them, or they or memory cannot be had.
 #[derive(Clone, Copy, Debug, PartialEq, Eq, Error)]
 pub enum InspectFault {
     #[error("the bytes are no capture at {at}")]

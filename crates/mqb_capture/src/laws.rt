@@ -3,12 +3,14 @@ ghost use Rattle.mqb_capture.specs.Cuts.{EventsAreCut};
 ghost use Rattle.mqb_capture.specs.Laws.{IsDecided, MomentsDoNotMatter, SaysOne};
 ghost use Rattle.mqb_capture.specs.Worked.{AckAlone, HeadAlone};
 
-/// Wherever pieces end, the bytes of each way are the frames of its packets, one after another, and a rest.
+/// Wherever pieces end, the bytes of each way are the frames of its packets, one after
+/// another, and a rest.
 pub fn events_are_cut()
     ensures { EventsAreCut }
 {}
 
-/// Of no bytes two answers are said: a verdict has one index and one cause, and no fault of the capture stands beside it.
+/// Of no bytes two answers are said: a verdict has one index and one cause, and no fault of the
+/// capture stands beside it.
 pub fn says_one()
     ensures { SaysOne }
 {}
@@ -18,12 +20,14 @@ pub fn is_decided()
     ensures { IsDecided }
 {}
 
-/// A set-up packet that is owed at some moment is owed at the one that it bears, and leaves the same session.
+/// A set-up packet that is owed at some moment is owed at the one that it bears, and
+/// leaves the same session.
 pub fn moments_do_not_matter()
     ensures { MomentsDoNotMatter }
 {}
 
-/// Where a list in rising order keeps what came of a sequence, the two neighbours of a new number decide whether its message may come.
+/// Where a list in rising order keeps what came of a sequence, the two neighbours of a new number
+/// decide whether its message may come.
 pub fn neighbours_are_enough()
     ensures { NeighboursAreEnough }
 {}
@@ -38,7 +42,8 @@ pub fn head_alone()
     ensures { HeadAlone }
 {}
 
-/// An acceptor that first hears an acknowledgement is closed by it, and the first bytes of one are a rest.
+/// An acceptor that first hears an acknowledgement is closed by it, and the first
+/// bytes of one are a rest.
 pub fn ack_alone()
     ensures { AckAlone }
 {}

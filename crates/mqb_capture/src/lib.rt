@@ -1,8 +1,11 @@
-//! Captures: what one end of a connection sent and heard, in that end's order, and which captures are lawful.
+//! Captures: what one end of a connection sent and heard, in that end's order, and which
+//! captures are lawful.
 //!
-//! `Grammar` has the bytes of a capture, `Events` the packets that its pieces are, and `Links` their numbers. `Lawful` says what is demanded of them, `Breaks`
-//! which packet breaks it first and why, and `Verdicts` what an inspector says of bytes. `Judged` computes the same, and `Chains` is how a program can keep the
-//! numbers. Each function here stands for a law: its contract is the law, and its body is empty.
+//! `Grammar` has the bytes of a capture, `Events` the packets that its pieces are, and `Links`
+//! their numbers. `Lawful` says what is demanded of them, `Breaks` which packet breaks it first and
+//! why, and `Verdicts` what an inspector says of bytes. `Judged` computes the same, and `Chains` is
+//! how a program can keep the numbers. Each function here stands for a law: its contract is the
+//! law, and its body is empty.
 #![tactic(auto)]
 
 mod answers;

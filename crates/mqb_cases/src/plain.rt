@@ -108,8 +108,8 @@ fn is_marked(plain: &PlainOut) -> bool {
     is_sent && is_one
 }
 
-/// How many messages are released where the peer has stored none, where it has stored nine, and where
-/// it has once no message has a mark. Then the first one to send, and what is taken out.
+/// How many messages are released where the peer has stored none, where it has stored nine, and
+/// where it has once no message has a mark. Then the first one to send, and what is taken out.
 fn released_and_taken(plain: &mut PlainOut) -> [u32; 5] {
     let none = plain.released_by(0);
     let one = plain.released_by(9);

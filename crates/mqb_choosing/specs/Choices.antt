@@ -1,5 +1,6 @@
 -- What a packet that goes is, seen over a state.
-use Rattle.std.specs.Prelude.{None, Option, Some, All, IsSomeAnd, List, false, filter_map, option_and_then, option_map, slice_get, sum_by, is_some, true, ◌≡◌, ℕ}
+use Rattle.std.specs.Prelude.{None, Option, Some, All, IsSomeAnd, List, false, filter_map}
+use Rattle.std.specs.Prelude.{option_and_then, option_map, slice_get, sum_by, is_some, true, ◌≡◌, ℕ}
 use Rattle.mqb_base.specs.declared.heads.SessionHead.{SessionHead}
 use Rattle.mqb_base.specs.declared.heads.TxHead.{TxHead}
 use Rattle.mqb_base.specs.declared.message.Lane.{Lane}
@@ -23,8 +24,12 @@ use Rattle.mqb_choosing.specs.declared.choice.Origin.TheVariants.{Kept, Owed, Wa
 -- the message that stands there
 abbrev pub message_at : State → Origin → Option Message
 message_at s (Owed row message) = Some message
-message_at s (Waiting peer kind index) = option_and_then (λ p. slice_get (messages_of (outgoing_in kind p)) index) (slice_get s.plain peer)
-message_at s (Kept row index tx) = option_and_then (λ r. option_map (λ k. k.message) (slice_get r.kept index)) (slice_get s.outs row)
+message_at s (Waiting peer kind index) =
+    option_and_then (λ p. slice_get (messages_of (outgoing_in kind p)) index)
+    (slice_get s.plain peer)
+message_at s (Kept row index tx) =
+    option_and_then (λ r. option_map (λ k. k.message) (slice_get r.kept index))
+    (slice_get s.outs row)
 
 -- the plain messages of a lane
 abbrev pub origin_in : Lane → beside.Origin
@@ -52,7 +57,8 @@ coming_from origin m = record { origin = origin_of origin; message = m; tx = tx_
 
 -- a packet that goes, where its message is there
 abbrev pub shown : State → Choice → Option (Candidate × SessionHead)
-shown s choice = option_map (λ m. (coming_from choice.origin m, choice.head)) (message_at s choice.origin)
+shown s choice =
+    option_map (λ m. (coming_from choice.origin m, choice.head)) (message_at s choice.origin)
 
 -- the packets that go
 abbrev pub shown_in : State → List Choice → List (Candidate × SessionHead)
@@ -62,7 +68,8 @@ shown_in s choices = filter_map (shown s) choices
 abbrev pub bytes_in : State → List Choice → ℕ
 bytes_in s choices = sum_by (λ given. candidate_size given.0) (shown_in s choices)
 
--- A candidate can be carried with its headers, and is transactional exactly where it is of a stream.
+-- A candidate can be carried with its headers, and is transactional exactly
+-- where it is of a stream.
 pub record IsSendable (c : Candidate) : Type 0 where
   pub carried : IsCarried (headers_for c.tx) c.message
   pub kind : is_some c.tx ≡ is_transactional c.message.delivery

@@ -6,7 +6,8 @@ use Rattle.mqb_plain.specs.Lists.{first_unsent}
 use Rattle.mqb_plain.specs.Plain.{MaySend, PlainLists}
 use Rattle.mqb_model.specs.managers.Beside.{OfExpress, OfRecoverable, Origin, with_marked}
 
--- A plain message that was sent is the next one, recoverable ones before express ones, and its number is above those that its list has.
+-- A plain message that was sent is the next one, recoverable ones before express ones, and its
+-- number is above those that its list has.
 abbrev pub IsNextSent : PlainLists → SessionHead → Origin → Type 0
 IsNextSent p head OfRecoverable = IsSome (first_unsent p.recoverable) × MaySend p head
 IsNextSent p head OfExpress = IsNone (first_unsent p.recoverable) × MaySend p head
@@ -21,4 +22,5 @@ with_noted p head _ = p
 -- each is that, in its turn
 abbrev pub AreNextSent : PlainLists → List (Origin × SessionHead) → Type 0
 AreNextSent p [] = Unit {0}
-AreNextSent p (given ∷ sent) = IsNextSent p given.1 given.0 × AreNextSent (with_noted p given.1 given.0) sent
+AreNextSent p (given ∷ sent) =
+    IsNextSent p given.1 given.0 × AreNextSent (with_noted p given.1 given.0) sent

@@ -1,4 +1,5 @@
-ghost use Rattle.std.specs.Prelude.{◌≡◌, ◌≤◌, ◌<◌, [], ◌∷◌, All, IsSomeAnd, OnOk, drop, filter, length, map, max, nat_lt, slice_get};
+ghost use Rattle.std.specs.Prelude.{◌≡◌, ◌≤◌, ◌<◌, [], ◌∷◌, All, IsSomeAnd, OnOk, drop, filter};
+ghost use Rattle.std.specs.Prelude.{length, map, max, nat_lt, slice_get};
 ghost use Rattle.mqb_model.specs.calls.pump.Candidates.{ack_candidate, acks, of_row, waiting};
 ghost use Rattle.mqb_model.specs.rules.Numbers.{express_after};
 ghost use Rattle.mqb_names.specs.Values.{IsName};

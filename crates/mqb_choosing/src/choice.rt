@@ -18,7 +18,8 @@ pub enum Origin {
     Owed { row: u32, message: Message },
     /// It waits for the peer at an index, at an index of its lane.
     Waiting { peer: u32, lane: Lane, index: u32 },
-    /// The outgoing row at an index keeps it at an index. The header has its number, and the kept one before it.
+    /// The outgoing row at an index keeps it at an index. The header has its number, and
+    /// the kept one before it.
     Kept { row: u32, index: u32, tx: TxHead },
 }
 

@@ -1,11 +1,14 @@
-ghost use Rattle.std.specs.Prelude.{[], ◌==◌, ◌≡◌, ◌<◌, ◌≤◌, ◌∷◌, All, IfOk, IsSomeAnd, OnOk, length, map, not, sum_by};
+ghost use Rattle.std.specs.Prelude.{[], ◌==◌, ◌≡◌, ◌<◌, ◌≤◌, ◌∷◌, All, IfOk, IsSomeAnd, OnOk};
+ghost use Rattle.std.specs.Prelude.{length, map, not, sum_by};
 ghost use Rattle.mqb_heads.specs.declared.base.TheConstants.{MAX_PACKET};
 ghost use Rattle.mqb_model.specs.calls.pump.Choosing.{candidate_size, session_behind, with_heads};
 ghost use Rattle.mqb_model.specs.managers.Valid.{IsExpressValid};
 ghost use Rattle.mqb_model.specs.state.Valid.{IsCarried, IsValidState};
 ghost use Rattle.mqb_packet.specs.Plain.{message_size};
-ghost use Rattle.mqb_choosing.specs.Choices.{AreSendable, CanGo, IsThere, bytes_in, coming_from, message_at, shown_in};
-ghost use Rattle.mqb_choosing.specs.Going.{Offers, any_waits, candidates_to, chosen_to, known, nothing_chosen, offered, takes};
+ghost use Rattle.mqb_choosing.specs.Choices.{AreSendable, CanGo, IsThere, bytes_in, coming_from};
+ghost use Rattle.mqb_choosing.specs.Choices.{message_at, shown_in};
+ghost use Rattle.mqb_choosing.specs.Going.{Offers, any_waits, candidates_to, chosen_to, known};
+ghost use Rattle.mqb_choosing.specs.Going.{nothing_chosen, offered, takes};
 
 use crate::choice::{Choice, Origin};
 use mqb_base::{Lane, Memory, Message};
@@ -16,7 +19,8 @@ use mqb_session::Session;
 use std::alloc::Global;
 use std::marker::Model;
 
-/// The packets that go, in order, and the session behind them. Contracts see besides how many bytes they have, and whether more may follow.
+/// The packets that go, in order, and the session behind them. Contracts see besides how many bytes
+/// they have, and whether more may follow.
 #[derive(Debug, Drop)]
 pub struct Choices {
     choices: Vec<Choice>,
@@ -30,7 +34,8 @@ impl Model for Choices {
 
     ghost Value = { Going };
 
-    ghost view = { λ c. record { choices = c.choices.items; session = c.session; bytes = c.bytes; more = c.more } };
+    ghost view = { λ c.
+        record { choices = c.choices.items; session = c.session; bytes = c.bytes; more = c.more } };
 
     ghost invariant = { λ c. IsCounted c.choices.items c.bytes };
 }
@@ -157,8 +162,9 @@ impl Choices {
     }
 }
 
-/// The packets that go to the peer at an index: the first ones that could go, as many as may. `cursors` has for each outgoing row the number that
-/// was sent last, `owes` for each incoming row whether it owes an acknowledgement.
+/// The packets that go to the peer at an index: the first ones that could go, as many as may.
+/// `cursors` has for each outgoing row the number that was sent last, `owes` for each incoming row
+/// whether it owes an acknowledgement.
 pub fn choose(
     alloc: Global,
     contents: &Contents,

@@ -1,4 +1,5 @@
-//! What a sender chooses is sound by its type: it makes a message, and its names are names. Each function only says it.
+//! What a sender chooses is sound by its type: it makes a message, and its names are names. Each
+//! function only says it.
 ghost use Rattle.std.specs.Prelude.{All};
 ghost use Rattle.mqb_model.specs.laws.Fitting.{IsDrafted, IsDraftedOp};
 

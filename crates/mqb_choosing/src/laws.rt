@@ -15,7 +15,8 @@ ghost use Rattle.mqb_choosing.specs.Noting.{AreNextSent};
 
 use mqb_packet::plain_size;
 
-/// Of the packets that go, each plain message is the next one for its peer when it is noted in its turn, and its number is above those of its list.
+/// Of the packets that go, each plain message is the next one for its peer when it is noted in its
+/// turn, and its number is above those of its list.
 pub fn sent_are_next()
     ensures { (s : State) (rest : Rest) (now k : ℕ) (peer : Identity) (p : PlainLists)
         (session : one_end.State) → IsSentIn session p → AreNextSent p (map origin_of

@@ -1,11 +1,15 @@
-//! Which packets a manager sends to a peer, as a plan over what it keeps, and their bytes: nothing that is kept changes.
+//! Which packets a manager sends to a peer, as a plan over what it keeps, and their bytes: nothing
+//! that is kept changes.
 //!
-//! Order acknowledgements that are owed go first, then plain messages, recoverable ones before express ones, then messages of the sequences that are
-//! open. `choose` takes the first of them, as many as may go. A message is looked for where the last sent one of its list stands, and is not copied:
-//! a choice says where it stands. `marks_for` gives the marks that the sequences get before any packet goes, and `put_choices` the packets' bytes.
+//! Order acknowledgements that are owed go first, then plain messages, recoverable ones before
+//! express ones, then messages of the sequences that are open. `choose` takes the first of them, as
+//! many as may go. A message is looked for where the last sent one of its list stands, and is not
+//! copied: a choice says where it stands. `marks_for` gives the marks that the sequences get before
+//! any packet goes, and `put_choices` the packets' bytes.
 //!
-//! `Sending` is the whole plan of a pump. The other steps of calls that need no store stand beside it: the rows of a connection begin anew, and owe
-//! acknowledgements, a part of a set-up is a packet, and what a sender chooses is sound by its type.
+//! `Sending` is the whole plan of a pump. The other steps of calls that need no store stand beside
+//! it: the rows of a connection begin anew, and owe acknowledgements, a part of a set-up is a
+//! packet, and what a sender chooses is sound by its type.
 #![tactic(auto)]
 
 mod candidates;

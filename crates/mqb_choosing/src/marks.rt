@@ -49,7 +49,8 @@ fn rising_mark(row: &OutRow, greatest: u32) -> Option<Mark>
     }
 }
 
-/// The marks of the outgoing rows that rise where these packets go, in row order. They are recorded before any packet goes.
+/// The marks of the outgoing rows that rise where these packets go, in row order. They are recorded
+/// before any packet goes.
 pub fn marks_for(alloc: Global, contents: &Contents, choices: &Choices) -> Result<Vec<Mark>, Memory>
     requires { All (IsThere contents.now.lists) choices.now.choices }
     ensures { IfOk result (λ marks. marks.items ≡ marks_for contents.now.lists

@@ -1,4 +1,5 @@
-//! What a connection knows of rows: those to a peer begin anew, and one owes an acknowledgement. Incoming rows behind the end of a list of marks owe none.
+//! What a connection knows of rows: those to a peer begin anew, and one owes an acknowledgement.
+//! Incoming rows behind the end of a list of marks owe none.
 ghost use Rattle.std.specs.List.{zip};
 ghost use Rattle.std.specs.Prelude.{◌<◌, ◌≡◌, ◌≤◌, IfSome, OnOk, false, length, map};
 ghost use Rattle.std.specs.Vec.{vec_capacity};

@@ -1,5 +1,6 @@
 //! What goes to a peer: it is planned, and its bytes are made.
-ghost use Rattle.std.specs.Prelude.{[], ◌&&◌, ◌+◌, ◌++◌, ◌<◌, ◌≡◌, ◌≤◌, ◌==◌, All, IfOk, IsSomeAnd, OnOk, false, flat_map, length, map, not, slice_get};
+ghost use Rattle.std.specs.Prelude.{[], ◌&&◌, ◌+◌, ◌++◌, ◌<◌, ◌≡◌, ◌≤◌, ◌==◌, All, IfOk, IsSomeAnd};
+ghost use Rattle.std.specs.Prelude.{OnOk, false, flat_map, length, map, not, slice_get};
 ghost use Rattle.std.specs.Vec.{vec_capacity};
 ghost use Rattle.mqb_choosing.specs.Choices.{IsThere, bytes_in, shown_in};
 ghost use Rattle.mqb_choosing.specs.Going.{any_waits, candidates_to, known};
@@ -24,8 +25,9 @@ use mqb_session::Session;
 use mqb_setup::Internal;
 use std::alloc::Global;
 
-/// The packets that go to the peer at an index, and what is known of its connection once they went: for each outgoing row the number that was sent last, and
-/// for each incoming row whether an acknowledgement is owed.
+/// The packets that go to the peer at an index, and what is known of its connection once they went:
+/// for each outgoing row the number that was sent last, and for each incoming row whether an
+/// acknowledgement is owed.
 #[derive(Drop)]
 pub struct Sending {
     pub peer: u32,
@@ -88,8 +90,9 @@ fn copied<T: Copy>(alloc: Global, list: &[T], blank: T, count: usize) -> Result<
     Ok(copy)
 }
 
-/// What goes to the peer at an index. `cursors` has for each outgoing row the number that was sent last, `owes` for each incoming row whether it owes an
-/// acknowledgement; rows behind the end of a list have none and owe none.
+/// What goes to the peer at an index. `cursors` has for each outgoing row the number that was sent
+/// last, `owes` for each incoming row whether it owes an acknowledgement; rows behind the end of a
+/// list have none and owe none.
 pub fn plan_sending(
     alloc: Global,
     contents: &Contents,

@@ -1,6 +1,8 @@
-//! What the parts of a set-up have by their types: their numbers are within their widths. Each function only says it.
+//! What the parts of a set-up have by their types: their numbers are within their widths. Each
+//! function only says it.
 ghost use Rattle.std.specs.Prelude.{◌<◌, ◌^◌};
-ghost use Rattle.mqb_setup.specs.Widths.{IsEstablish, IsGuid, IsInternal, IsParameters, IsSessionHead};
+ghost use Rattle.mqb_setup.specs.Widths.{IsEstablish, IsGuid, IsInternal};
+ghost use Rattle.mqb_setup.specs.Widths.{IsParameters, IsSessionHead};
 
 use mqb_base::{Guid, SessionHead};
 use mqb_names::word_fits;

@@ -39,7 +39,8 @@ fn settle_one(origin: &Origin, cursors: &mut [u32], owes: &mut [bool])
     }
 }
 
-/// Notes for the connection that these packets went: an acknowledgement is owed no more, and a row was sent up to a number.
+/// Notes for the connection that these packets went: an acknowledgement is owed no more, and a row
+/// was sent up to a number.
 pub fn settle(choices: &Choices, cursors: &mut [u32], owes: &mut [bool])
     ensures { (s : State) (session : one_end.State) → All (IsThere s) choices.now.choices →
         known session cursors.new owes.new ≡ settled (known session cursors.old owes.old)

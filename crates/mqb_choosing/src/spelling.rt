@@ -4,7 +4,8 @@ ghost use Rattle.mqb_packet.specs.Plain.{plain_spelling};
 ghost use Rattle.mqb_packet.specs.Values.{IsPacket};
 ghost use Rattle.mqb_model.specs.calls.pump.Choosing.{candidate_size};
 ghost use Rattle.mqb_model.specs.calls.pump.Pump.{carriage_for, packet_for};
-ghost use Rattle.mqb_choosing.specs.Choices.{IsThere, bytes_in, coming_from, shown, shown_in, tx_for};
+ghost use Rattle.mqb_choosing.specs.Choices.{IsThere, bytes_in, coming_from, shown};
+ghost use Rattle.mqb_choosing.specs.Choices.{shown_in, tx_for};
 
 use crate::choice::{Choice, Origin};
 use crate::choosing::Choices;
@@ -56,7 +57,8 @@ fn put_choice(contents: &Contents, choice: &Choice, to: Guid, now: u32, out: &mu
     }
 }
 
-/// Adds the packets to the manager `to`, in order, where there is room for them. It takes no memory.
+/// Adds the packets to the manager `to`, in order, where there is room for
+/// them. It takes no memory.
 pub fn put_choices(contents: &Contents, choices: &Choices, to: Guid, now: u32, out: &mut Vec<u8>)
     requires there { All (IsThere contents.now.lists) choices.now.choices }
     requires room { length out.old.items + bytes_in contents.now.lists choices.now.choices

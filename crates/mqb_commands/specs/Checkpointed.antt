@@ -21,8 +21,10 @@ abbrev pub end_of : {V E : Type 0} → Result V E → Status
 end_of (Ok done) = status.Done
 end_of (Err why) = status.Refused
 
--- The state was written anew, or that was refused and nothing was written (kept), and the reply is told. The disk, whose faults are counted, did not fail.
-pub record IsCheckpointed (kept : Type 0) (faults faults_now : ℕ) (m n : ManagerState) (text : List ℕ) (r : Status) : Type 0 where
+-- The state was written anew, or that was refused and nothing was written (kept), and the reply is
+-- told. The disk, whose faults are counted, did not fail.
+pub record IsCheckpointed (kept : Type 0) (faults faults_now : ℕ) (m n : ManagerState)
+    (text : List ℕ) (r : Status) : Type 0 where
   pub told : Reply
   pub made : Succeeds m n (checkpoint_of m)
   pub rewritten : OnOk (checkpoint_of m).answer (IsRewritten m n)
@@ -39,11 +41,14 @@ pub record IsLeftDown (faults faults_now : ℕ) (m n : ManagerState) : Type 0 wh
   pub rose : Rose faults faults_now
 
 -- A manager that is open writes its state anew, or the disk fails, or memory runs out.
-abbrev pub CheckpointsOn : (kept : Type 0) → (faults faults_now : ℕ) → (m n : ManagerState) → List ℕ → Status → Type 0
+abbrev pub CheckpointsOn : (kept : Type 0) → (faults faults_now : ℕ) → (m n : ManagerState) → List ℕ
+    → Status → Type 0
 CheckpointsOn kept faults faults_now m n text r = IsCheckpointed kept faults faults_now m n text r
     ⊎ (IsFaultLine status.DiskFault text r × IsLeftDown faults faults_now m n)
     ⊎ ((r ≡ status.Memory) × (text ≡ []) × IsNotTold (checkpoint_of m) faults faults_now m n)
 
 -- `checkpoint`
 abbrev pub Checkpoints : View → View → List ℕ → Status → Type 0
-Checkpoints d e text r = OnStore (λ m n. CheckpointsOn (OnlySettles d e) d.faults e.faults m n text r) d e ⊎ FailsToOpen d e text r
+Checkpoints d e text r =
+    OnStore (λ m n. CheckpointsOn (OnlySettles d e) d.faults e.faults m n text r) d e
+    ⊎ FailsToOpen d e text r

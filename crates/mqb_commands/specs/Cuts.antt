@@ -17,7 +17,8 @@ IsUnfinished place bytes = wants_more (next (held_at place bytes)) ≡ true
 
 -- The bytes at a place have a bad base header, or they are a frame that is no packet.
 abbrev pub IsBad : ℕ → List ℕ → HeadFault → Type 0
-IsBad place bytes why = (next (held_at place bytes) ≡ Broken why place) ⊎ ((next (held_at place bytes) ≡ Whole bytes) × (packet_of bytes ≡ Err why))
+IsBad place bytes why = (next (held_at place bytes) ≡ Broken why place)
+    ⊎ ((next (held_at place bytes) ≡ Whole bytes) × (packet_of bytes ≡ Err why))
 
 -- some of these bytes, from the first on, are bad
 pub record BeginsBad (place : ℕ) (bytes : List ℕ) (why : HeadFault) : Type 0 where

@@ -1,6 +1,10 @@
 use Rattle.std.specs.Prelude.{ℕ}
 use Rattle.mqb_commands.specs.declared.status.Status.{Status}
-use Rattle.mqb_commands.specs.declared.status.Status.TheVariants.{Done, Usage, Script, TooLong, TooManyLines, ReadFault, WriteFault, DiskFault, NetFault, BadStore, NotEmpty, Peer, NetFull, Memory, Refused}
+use Rattle.mqb_commands.specs.declared.status.Status.TheVariants.{Done, Usage, Script, TooLong}
+use Rattle.mqb_commands.specs.declared.status.Status.TheVariants.{TooManyLines, ReadFault}
+use Rattle.mqb_commands.specs.declared.status.Status.TheVariants.{WriteFault, DiskFault, NetFault}
+use Rattle.mqb_commands.specs.declared.status.Status.TheVariants.{BadStore, NotEmpty, Peer, NetFull}
+use Rattle.mqb_commands.specs.declared.status.Status.TheVariants.{Memory, Refused}
 
 -- the exit status of each end of the program
 abbrev pub exit_of : Status → ℕ

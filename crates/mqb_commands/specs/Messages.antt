@@ -20,7 +20,8 @@ use Rattle.mqb_commands.specs.Lines.{delivery_text}
 
 -- the seconds that are left at a moment of the time to be received, where that has a limit
 unfoldable pub seconds_word : (sent life now : ℕ) → List ℕ
-seconds_word sent life now = if life == UNLIMITED then codes "-" else decimal (remaining sent life now)
+seconds_word sent life now =
+    if life == UNLIMITED then codes "-" else decimal (remaining sent life now)
 
 -- the queue that answers go to, where there is one
 unfoldable pub response_word : Option QueueName → List ℕ
@@ -48,7 +49,8 @@ head_text hosts now m = id_text hosts m.id ++ spaced (class_text m.class)
 -- what its sender says with it
 unfoldable pub content_text : List Identity → Message → List ℕ
 content_text hosts m = spaced (decimal m.tag) ++ spaced (hex_word (unit_bytes m.label))
-    ++ spaced (response_word m.response) ++ spaced (correlation_word hosts m.correlation) ++ spaced (hex_word m.body)
+    ++ spaced (response_word m.response) ++ spaced (correlation_word hosts m.correlation)
+    ++ spaced (hex_word m.body)
 
 unfoldable pub message_line : List Identity → (now : ℕ) → Message → List ℕ
 message_line hosts now m = head_text hosts now m ++ content_text hosts m ++ codes "\n"

@@ -9,10 +9,12 @@ use Rattle.mqb_commands.specs.Texts.{fault_text}
 
 -- The text was written and the program ended so, or a front of it was, and the output failed.
 abbrev pub Tells : List ℕ → Status → Option (List ℕ) → Option (List ℕ) → Status → Type 0
-Tells text end before after r = ((r ≡ end) × Took before after text) ⊎ ((r ≡ status.WriteFault) × TookFront before after text)
+Tells text end before after r =
+    ((r ≡ end) × Took before after text) ⊎ ((r ≡ status.WriteFault) × TookFront before after text)
 
 -- A command said what is meant, and ended so. Where it had nothing to say, no output failed.
-pub record Says (meant : List ℕ → Status → Type 0) (before after : Option (List ℕ)) (r : Status) : Type 0 where
+pub record Says (meant : List ℕ → Status → Type 0) (before after : Option (List ℕ))
+    (r : Status) : Type 0 where
   pub text : List ℕ
   pub end : Status
   pub means : meant text end

@@ -33,7 +33,8 @@ TellsMessages hosts now (m ∷ more) text r =
     (r ≡ status.Done) × (text ≡ flat_map (message_line hosts now) (m ∷ more))
 
 -- The messages of a place are told that would be taken one after another at a moment.
-pub record TellsPlace (hosts : List Identity) (s : Places) (at : EntryPlace) (count now : ℕ) (text : List ℕ)
+pub record TellsPlace (hosts : List Identity) (s : Places) (at : EntryPlace) (count now : ℕ)
+    (text : List ℕ)
     (r : Status) : Type 0 where
   pub taken : List Message
   pub in_turn : TakenInTurn (is_free at now) count (held_at s at) taken
@@ -46,14 +47,17 @@ TellsIfThere s (Some at) count now text r = TellsPlace (hosts_of s) s.places at 
 
 -- what is told of a place by name
 abbrev pub TellsFirst : State → Place → (count now : ℕ) → List ℕ → Status → Type 0
-TellsFirst s place count now text r = TellsIfThere s (place_named s.places.queues place) count now text r
+TellsFirst s place count now text r =
+    TellsIfThere s (place_named s.places.queues place) count now text r
 
 -- a manager that is open tells the first messages of a place, or memory ran out
 abbrev pub PeeksOn : Place → (count now : ℕ) → ManagerState → List ℕ → Status → Type 0
-PeeksOn place count now m text r = TellsFirst m.store.state place count now text r ⊎ ((r ≡ status.Memory) × (text ≡ []))
+PeeksOn place count now m text r =
+    TellsFirst m.store.state place count now text r ⊎ ((r ≡ status.Memory) × (text ≡ []))
 
 -- A store was opened and not written, and the first messages of a place are told.
-pub record IsPeeked (place : Place) (count now : ℕ) (d e : View) (text : List ℕ) (r : Status) : Type 0 where
+pub record IsPeeked (place : Place) (count now : ℕ) (d e : View) (text : List ℕ)
+    (r : Status) : Type 0 where
   pub manager : ManagerState
   pub opened : OpensAs d manager
   pub reads : OnlySettles d e

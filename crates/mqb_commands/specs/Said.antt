@@ -21,7 +21,8 @@ Makes orders text status.Done = text ≡ generated orders
 Makes orders text status.Memory = text ≡ []
 Makes orders text _ = ⊥
 
--- A disk that was empty is the store of a new manager, and settled. What the manager is is its one record.
+-- A disk that was empty is the store of a new manager, and settled. What the manager
+-- is is its one record.
 pub record IsNewStore (identity : Identity) (d e : View) : Type 0 where
   pub manager : ManagerState
   pub new : manager_of manager ≡ new_manager identity
@@ -34,8 +35,10 @@ pub record IsNewStore (identity : Identity) (d e : View) : Type 0 where
 -- `init`
 abbrev pub Inits : Identity → View → View → List ℕ → Status → Type 0
 Inits identity d e text status.Done = (text ≡ codes "ok\n") × IsNewStore identity d e
-Inits identity d e text status.NotEmpty = (text ≡ fault_text status.NotEmpty) × Each d.reads (λ c. 0 < length c) × OnlyReads d e
-Inits identity d e text status.DiskFault = (text ≡ fault_text status.DiskFault) × Rose d.faults e.faults
+Inits identity d e text status.NotEmpty =
+    (text ≡ fault_text status.NotEmpty) × Each d.reads (λ c. 0 < length c) × OnlyReads d e
+Inits identity d e text status.DiskFault =
+    (text ≡ fault_text status.DiskFault) × Rose d.faults e.faults
 Inits identity d e text status.Memory = (text ≡ []) × (OnlyReads d e ⊎ Rose d.faults e.faults)
 Inits identity d e text _ = ⊥
 

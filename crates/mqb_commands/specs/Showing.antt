@@ -21,14 +21,18 @@ status_of fault.WriteFault = status.WriteFault
 status_of fault.Memory = status.Memory
 
 -- what was written, and why it ended behind packets that are `place` bytes
-abbrev pub EndsWith : (place : ℕ) (rest lines : List ℕ) → (left before after : Option (List ℕ)) → Result (Unit {0}) ShowFault → Type 0
-EndsWith place rest lines left before after (Ok done) = EndsBehind place rest left status.Done × Took before after lines
+abbrev pub EndsWith : (place : ℕ) (rest lines : List ℕ) → (left before after : Option (List ℕ))
+    → Result (Unit {0}) ShowFault → Type 0
+EndsWith place rest lines left before after (Ok done) =
+    EndsBehind place rest left status.Done × Took before after lines
 EndsWith place rest lines left before after (Err fault.WriteFault) = TookFront before after lines
 EndsWith place rest lines left before after (Err fault.Memory) = TookFront before after lines
-EndsWith place rest lines left before after (Err why) = EndsBehind place rest left (status_of why) × Took before after lines
+EndsWith place rest lines left before after (Err why) =
+    EndsBehind place rest left (status_of why) × Took before after lines
 
 -- The packets at the front of what an input gave were shown, up to a fault.
-pub record ShowsAll (held left before after : Option (List ℕ)) (r : Result (Unit {0}) ShowFault) : Type 0 where
+pub record ShowsAll (held left before after : Option (List ℕ))
+    (r : Result (Unit {0}) ShowFault) : Type 0 where
   pub bytes : List ℕ
   pub most : length bytes ≤ MAX_READ
   pub packets : List (List ℕ)
@@ -38,7 +42,8 @@ pub record ShowsAll (held left before after : Option (List ℕ)) (r : Result (Un
   pub ends : EndsWith (length (joined packets)) rest (lines_from 0 packets) left before after r
 
 -- each fault comes only where its count rose
-pub record ShowCauses (reads reads_now writes writes_now : ℕ) (r : Result (Unit {0}) ShowFault) : Type 0 where
+pub record ShowCauses (reads reads_now writes writes_now : ℕ)
+    (r : Result (Unit {0}) ShowFault) : Type 0 where
   pub read : r ≡ Err fault.ReadFault → Rose reads reads_now
   pub write : r ≡ Err fault.WriteFault → Rose writes writes_now
   pub quiet : r ≢ Err fault.WriteFault → writes_now ≡ writes

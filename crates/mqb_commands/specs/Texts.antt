@@ -29,7 +29,8 @@ kind_text head.Sizes = codes "sizes"
 
 -- a header at a place of a stream, with its fault
 unfoldable pub bad_text : ℕ → HeadFault → List ℕ
-bad_text place fault = codes "bad " ++ decimal place ++ spaced (decimal fault.at) ++ spaced (kind_text fault.kind)
+bad_text place fault =
+    codes "bad " ++ decimal place ++ spaced (decimal fault.at) ++ spaced (kind_text fault.kind)
 
 unfoldable pub peer_text : PeerFault → List ℕ
 peer_text peer.PeerClosed = codes "closed"
@@ -55,7 +56,8 @@ line_kind_text line.Value = codes "value"
 
 -- the fault line of a script: its first line that fails, and what is wrong with it
 unfoldable pub script_fault_text : ℕ → LineKind → List ℕ
-script_fault_text number kind = codes "fault: script " ++ decimal number ++ codes " " ++ line_kind_text kind ++ codes "\n"
+script_fault_text number kind =
+    codes "fault: script " ++ decimal number ++ codes " " ++ line_kind_text kind ++ codes "\n"
 
 -- that of a disk that is no store, with the first place where it is none
 unfoldable pub bad_store_text : ℕ → List ℕ

@@ -1,6 +1,8 @@
 //! What is said of faults and of the ends of connections.
 ghost use Rattle.std.specs.Prelude.{◌≡◌, ◌++◌, OnErr, OnOk, codes};
-ghost use Rattle.mqb_commands.specs.Texts.{bad_store_text, bad_text, end_text, fault_text, kind_text, line_kind_text, peer_text, script_fault_text, shown_fault_text};
+ghost use Rattle.mqb_commands.specs.Texts.{bad_store_text, bad_text, end_text, fault_text};
+ghost use Rattle.mqb_commands.specs.Texts.{kind_text, line_kind_text, peer_text};
+ghost use Rattle.mqb_commands.specs.Texts.{script_fault_text, shown_fault_text};
 ghost use Rattle.mqb_transcript.specs.Printing.{wrote};
 ghost use Rattle.mqb_transcript.specs.Texts.{cause_text};
 

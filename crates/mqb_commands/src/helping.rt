@@ -94,7 +94,8 @@ Exit statuses, which standard error explains:
 
 pub const VERSION: &[u8] = b"mqb 0.1.0\n";
 
-/// The words that there are, with an example of each, what the environment sets, and the exit statuses.
+/// The words that there are, with an example of each, what the environment sets,
+/// and the exit statuses.
 #[tactic(auto, unfolding(crate::specs::Helps::help_text))]
 pub fn help() -> &'static [u8]
     ensures { result.now ≡ help_text }

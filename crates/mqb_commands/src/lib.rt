@@ -1,10 +1,13 @@
-//! The commands of the program but for connections and replays: what each says, how it ends, and what the disk is left as.
+//! The commands of the program but for connections and replays: what each says, how it ends, and
+//! what the disk is left as.
 //!
-//! A store is opened, formatted or listed, or its manager called at one moment of a clock; a command answers its whole text, which is written in one place.
-//! The packets of an input are shown as they come, a line for each, and no more than one packet is kept. How the program ends and what it says of a fault
-//! stand here too.
+//! A store is opened, formatted or listed, or its manager called at one moment of a clock; a
+//! command answers its whole text, which is written in one place. The packets of an input are shown
+//! as they come, a line for each, and no more than one packet is kept. How the program ends and
+//! what it says of a fault stand here too.
 //!
-//! Of the definitions, `Opened` has what a store is opened as, `Said` what each command says, `Called` what a call says, and `Shown` what is shown.
+//! Of the definitions, `Opened` has what a store is opened as, `Said` what each command says,
+//! `Called` what a call says, and `Shown` what is shown.
 #![tactic(auto)]
 
 mod answer;

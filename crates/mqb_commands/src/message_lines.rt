@@ -1,7 +1,9 @@
 //! The line of a message.
 ghost use Rattle.std.specs.Int.{to_be_bytes, w16};
 ghost use Rattle.std.specs.Prelude.{◌≡◌, ◌++◌, IfOk, OnOk};
-ghost use Rattle.mqb_commands.specs.Messages.{content_text, correlation_word, head_text, hex_word, message_line, response_word, seconds_word, unit_bytes};
+ghost use Rattle.mqb_commands.specs.Messages.{content_text, correlation_word, head_text, hex_word};
+ghost use Rattle.mqb_commands.specs.Messages.{message_line, response_word};
+ghost use Rattle.mqb_commands.specs.Messages.{seconds_word, unit_bytes};
 ghost use Rattle.mqb_transcript.specs.Printing.{wrote};
 ghost use Rattle.mqb_transcript.specs.Texts.{spaced};
 

@@ -68,8 +68,8 @@ fn tell_first(
     }
 }
 
-/// The first messages of a place of a manager, at most `count`: those that `take` would give one after another at a moment.
-/// None is taken.
+/// The first messages of a place of a manager, at most `count`: those that `take` would give one
+/// after another at a moment. None is taken.
 pub fn answer_peek(alloc: Global, manager: &Manager, place: &Place, count: u32, now: u32) -> Answer
     requires { 1 ≤ count }
     ensures peeks { PeeksOn place.now count now manager.now result.text.items result.end }

@@ -75,7 +75,8 @@ fn stop<K: Sink>(alloc: Global, fault: ShowFault, out: &mut K) -> Status
     }
 }
 
-/// Shows the packets of an input: a line for each, as it comes, and a fault line where the input is not all packets.
+/// Shows the packets of an input: a line for each, as it comes, and a fault line where the
+/// input is not all packets.
 pub fn show<S: Source, K: Sink>(alloc: Global, input: &mut S, out: &mut K) -> Status
     ensures shown { Shows (S.held input.old) (S.held input.new) (K.taken out.old) (K.taken out.new)
         result }

@@ -51,8 +51,8 @@ impl Taking {
         self.is_free(message) && u16::from(message.priority) == priority
     }
 
-    /// Puts the line of a message that can be taken and has this priority, where `count` lines may be put, and answers how
-    /// many more may be.
+    /// Puts the line of a message that can be taken and has this priority, where `count` lines may
+    /// be put, and answers how many more may be.
     fn put_free(
         self,
         alloc: Global,
@@ -111,7 +111,8 @@ impl Taking {
         self.put_each(alloc, printer, express, priority, more)
     }
 
-    /// Puts the lines of the messages that would be taken, by their priorities from the greatest one on.
+    /// Puts the lines of the messages that would be taken, by their priorities from
+    /// the greatest one on.
     fn put_by_priority(
         self,
         alloc: Global,
@@ -134,7 +135,8 @@ impl Taking {
     }
 }
 
-/// Puts the lines of the messages of a place that would be taken one after another, at most `count`.
+/// Puts the lines of the messages of a place that would be taken one after
+/// another, at most `count`.
 pub(crate) fn put_taken(
     alloc: Global,
     printer: &mut Printer<'_>,

@@ -18,7 +18,8 @@ is_lost fault.WriteFault = true
 is_lost fault.DiskFault = false
 is_lost fault.Memory = false
 
--- a command that serves over input and output ends so: never by its words, by a script, by a net, or for want of room in a medium
+-- a command that serves over input and output ends so: never by its words, by a script, by a net,
+-- or for want of room in a medium
 abbrev pub IsProbeEnd : Status → Type 0
 IsProbeEnd status.Usage = ⊥
 IsProbeEnd (status.Script line kind) = ⊥

@@ -21,7 +21,8 @@ probe_status (Err fault.WriteFault) = status.WriteFault
 probe_status (Err fault.DiskFault) = status.DiskFault
 probe_status (Err fault.Memory) = status.Memory
 
--- no device failed: the work was done or refused, or a peer ended its connection badly, or memory ran out
+-- no device failed: the work was done or refused, or a peer ended its connection
+-- badly, or memory ran out
 abbrev pub IsFaultless : Status → Type 0
 IsFaultless status.Done = Unit {0}
 IsFaultless (status.Peer why) = Unit {0}

@@ -16,11 +16,14 @@ GoesOn (Err fault.Memory) = ⊥
 GoesOn _ = Unit {0}
 
 -- The line of a connection was written, or the program ends.
-abbrev pub TellsEnd : ℕ → Answer → (before after : Option (List ℕ)) → Result (Unit {0}) Status → Type 0
+abbrev pub TellsEnd : ℕ → Answer → (before after : Option (List ℕ)) → Result (Unit {0}) Status
+    → Type 0
 TellsEnd number end before after (Ok done) = GoesOn end × Took before after (end_line number end)
-TellsEnd number end before after (Err status.DiskFault) = (end ≡ Err fault.DiskFault) × (after ≡ before)
+TellsEnd number end before after (Err status.DiskFault) =
+    (end ≡ Err fault.DiskFault) × (after ≡ before)
 TellsEnd number end before after (Err status.Memory) = after ≡ before
-TellsEnd number end before after (Err status.WriteFault) = TookFront before after (end_line number end)
+TellsEnd number end before after (Err status.WriteFault) =
+    TookFront before after (end_line number end)
 TellsEnd number end before after (Err _) = ⊥
 
 -- The net gave no connection: the fault line was written, or a front of it, or memory ran out.

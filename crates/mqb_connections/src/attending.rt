@@ -4,7 +4,8 @@ ghost use Rattle.mqb_commands.specs.Causes.{DiskFaultHasCause};
 ghost use Rattle.mqb_commands.specs.Outputs.{GoesOn, WriteFaultHasCause};
 ghost use Rattle.mqb_connections.specs.Asked.{AsksForEach};
 ghost use Rattle.mqb_connections.specs.Causes.{IsLinkEnd, IsNetEnd, NetFaultHasCause};
-ghost use Rattle.mqb_connections.specs.Served.{AttendsFrom, Completes, MOST_ATTENDED, ServesPeers, end_of};
+ghost use Rattle.mqb_connections.specs.Served.{AttendsFrom, Completes, MOST_ATTENDED};
+ghost use Rattle.mqb_connections.specs.Served.{ServesPeers, end_of};
 ghost use Rattle.mqb_manager.specs.Keeping.{KeepsDisk};
 ghost use Rattle.mqb_manager.specs.States.{IsOnDisk, IsUp};
 ghost use Rattle.mqb_outside.specs.Faults.{Rose};
@@ -16,8 +17,8 @@ use mqb_manager::Manager;
 use mqb_outside::{Clock, Disk, Net, Sink};
 use std::alloc::Global;
 
-/// Serves each peer that comes to a manager, one after another, until none came for so many seconds, and says of each connection how it ended, as soon as it
-/// did.
+/// Serves each peer that comes to a manager, one after another, until none came for so many
+/// seconds, and says of each connection how it ended, as soon as it did.
 pub fn attend_all<K: Sink, D: Disk, N: Net, C: Clock>(
     alloc: Global,
     seconds: u32,

@@ -1,6 +1,8 @@
-//! The commands that serve connections: what is served over each, the line that is said of its end, and how the program ends.
+//! The commands that serve connections: what is served over each, the line that is said of its end,
+//! and how the program ends.
 //!
-//! Of the definitions, `Visits` has what is served over connections one after another, and `Served` how each command ends.
+//! Of the definitions, `Visits` has what is served over connections one after another, and `Served`
+//! how each command ends.
 #![tactic(auto)]
 
 mod attending;

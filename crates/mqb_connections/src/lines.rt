@@ -25,7 +25,8 @@ fn put_said(
     printer.put(b"\n")
 }
 
-/// The line of a connection: its number and how it ended. There is none where the disk failed or memory ran out.
+/// The line of a connection: its number and how it ended. There is none where the disk
+/// failed or memory ran out.
 #[tactic(auto, using(mqb_transcript::specs::lemmas::Wrote::text_wrote), unfolding(crate::specs::Visits::end_line))]
 pub(crate) fn end_line(
     alloc: Global,

@@ -9,7 +9,8 @@ ghost use Rattle.mqb_journal.specs.Causes.{FaultsAsSaid};
 ghost use Rattle.mqb_manager.specs.Keeping.{KeepsDisk};
 ghost use Rattle.mqb_manager.specs.States.{IsOnDisk, IsUp};
 ghost use Rattle.mqb_serve.specs.Talking.{stored_of};
-ghost use Rattle.mqb_serving.specs.Serving.{Serves, ServesWhole, is_disk_fault, is_read_fault, is_write_fault};
+ghost use Rattle.mqb_serving.specs.Serving.{Serves, ServesWhole, is_disk_fault};
+ghost use Rattle.mqb_serving.specs.Serving.{is_read_fault, is_write_fault};
 ghost use Rattle.mqb_commands.specs.Outputs.{ReadFaultHasCause, WriteFaultHasCause};
 
 use crate::piped::Piped;

@@ -1,17 +1,21 @@
 //! `push` and `fetch`: one connection to a peer.
 ghost use Rattle.std.specs.Option.{option_or};
-ghost use Rattle.std.specs.Prelude.{◌<◌, ◌≡◌, ◌≢◌, ◌⊎◌, Err, IfOk, IfSome, MatchResult, None, OnErr, Some, length};
+ghost use Rattle.std.specs.Prelude.{◌<◌, ◌≡◌, ◌≢◌, ◌⊎◌, Err, IfOk, IfSome, MatchResult, None};
+ghost use Rattle.std.specs.Prelude.{OnErr, Some, length};
 ghost use Rattle.mqb_commands.specs.Causes.{DiskFaultHasCause};
 ghost use Rattle.mqb_connections.specs.Asked.{AsksForEach, RoseBy};
 ghost use Rattle.mqb_connections.specs.Causes.{IsLinkEnd, IsNetEnd, NetFaultHasCause, is_lost};
-ghost use Rattle.mqb_connections.specs.Reached.{CompletesReach, IsReach, ReachesAt, ReachesOn, ReachesStore, TellsReach, address_at, index_of_host};
+ghost use Rattle.mqb_connections.specs.Reached.{CompletesReach, IsReach, ReachesAt, ReachesOn};
+ghost use Rattle.mqb_connections.specs.Reached.{ReachesStore, TellsReach};
+ghost use Rattle.mqb_connections.specs.Reached.{address_at, index_of_host};
 ghost use Rattle.mqb_connections.specs.Statuses.{reach_status};
 ghost use Rattle.mqb_journal.specs.Causes.{FaultsAsSaid};
 ghost use Rattle.mqb_manager.specs.Keeping.{KeepsDisk};
 ghost use Rattle.mqb_manager.specs.States.{IsOnDisk, IsUp};
 ghost use Rattle.mqb_outside.specs.Faults.{HasCause, Rose};
 ghost use Rattle.mqb_serve.specs.Talking.{stored_of};
-ghost use Rattle.mqb_serving.specs.Serving.{Serves, ServesWhole, is_disk_fault, is_read_fault, is_write_fault};
+ghost use Rattle.mqb_serving.specs.Serving.{Serves, ServesWhole, is_disk_fault};
+ghost use Rattle.mqb_serving.specs.Serving.{is_read_fault, is_write_fault};
 ghost use Rattle.mqb_commands.specs.Outputs.{GoesOn, WriteFaultHasCause};
 
 use crate::lines::end_line;
@@ -210,7 +214,8 @@ fn reach_at<K: Sink, D: Disk, N: Net, C: Clock>(
     }
 }
 
-/// Reaches the peer of a host from a manager, at the address that the words name or else at the peer's own, and says how the connection ended.
+/// Reaches the peer of a host from a manager, at the address that the words name or else at the
+/// peer's own, and says how the connection ended.
 pub fn reach_host<K: Sink, D: Disk, N: Net, C: Clock>(
     alloc: Global,
     why: Errand,

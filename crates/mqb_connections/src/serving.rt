@@ -148,7 +148,8 @@ pub(crate) fn serve_and_tell<K: Sink, D: Disk, N: Net, C: Clock>(
     }
 }
 
-/// Serves so many connections that peers make of a manager, one after another, and says of each how it ended, as soon as it did.
+/// Serves so many connections that peers make of a manager, one after another, and says of each how
+/// it ended, as soon as it did.
 pub fn serve_all<K: Sink, D: Disk, N: Net, C: Clock>(
     alloc: Global,
     count: u32,

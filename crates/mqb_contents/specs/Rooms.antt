@@ -12,7 +12,8 @@ use Rattle.mqb_queue.specs.Places.{PlaceRooms, no_rooms, rooms_at}
 use Rattle.mqb_tables.specs.Keys.{AreKeysKept, same_in_key, same_out_key}
 use Rattle.mqb_tables.specs.Rooms.{AreMembersGrown, MemberRooms, member_room, no_members}
 
--- of the places, of the list of peers, of the plain messages that wait for each of them, and of the rows; and the keys of the tables of rows
+-- of the places, of the list of peers, of the plain messages that wait for each of them, and of the
+-- rows; and the keys of the tables of rows
 pub record StateRooms : Type 0 where
   pub places : PlaceRooms
   pub peers : ℕ
@@ -23,9 +24,18 @@ pub record StateRooms : Type 0 where
   pub sources : List InKey
 
 abbrev pub no_room : StateRooms
-no_room = record { places = no_rooms; peers = 0; plain = no_members; outs = no_members; in_use = []; ins = 0; sources = [] }
+no_room = record {
+  places = no_rooms;
+  peers = 0;
+  plain = no_members;
+  outs = no_members;
+  in_use = [];
+  ins = 0;
+  sources = [];
+}
 
--- how many incoming rows there can be, and the keys of their table: a row that has one of them takes no memory
+-- how many incoming rows there can be, and the keys of their table: a row that has one of
+-- them takes no memory
 pub record InRooms : Type 0 where
   pub more : ℕ
   pub keys : List InKey

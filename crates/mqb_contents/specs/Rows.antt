@@ -1,6 +1,7 @@
 -- Rows and peers that join a state, and what is written in a row.
 use Rattle.std.specs.Option.{option_map_or}
-use Rattle.std.specs.Prelude.{[], ◌≡◌, ◌≤◌, All, List, None, Option, Some, if◌then◌else◌, insert, length, nat_lt, slice_get, ℕ}
+use Rattle.std.specs.Prelude.{[], ◌≡◌, ◌≤◌, All, List, None, Option, Some, if◌then◌else◌, insert}
+use Rattle.std.specs.Prelude.{length, nat_lt, slice_get, ℕ}
 use Rattle.mqb_base.specs.declared.ids.Identity.{Identity}
 use Rattle.mqb_base.specs.declared.ids.SequenceId.{SequenceId}
 use Rattle.mqb_base.specs.declared.queue_names.QueueName.{QueueName}
@@ -45,9 +46,11 @@ IsBegun row = row ≡ begun_row row.peer row.destination row.sequence
 abbrev pub KeepsCommitted : Row → Type 0
 KeepsCommitted row = All (λ k. k.number ≤ row.committed) row.kept
 
--- A row can keep a message before the one at an index, or at the end: the numbers rise, and its own was committed.
+-- A row can keep a message before the one at an index, or at the end: the numbers rise, and
+-- its own was committed.
 abbrev pub CanKeep : ℕ → Kept → Row → Type 0
-CanKeep k kept row = (k ≤ length row.kept) × Rises (insert row.kept k kept) × (kept.number ≤ row.committed)
+CanKeep k kept row =
+    (k ≤ length row.kept) × Rises (insert row.kept k kept) × (kept.number ≤ row.committed)
 
 -- how many messages the outgoing row at an index keeps
 abbrev pub kept_count : List Row → ℕ → ℕ
@@ -62,7 +65,8 @@ marks_of row = record { committed = row.committed; offered = row.offered; acked 
 
 -- a row has these marks
 abbrev pub with_marks : RowMarks → Row → Row
-with_marks marks row = record row { committed = marks.committed; offered = marks.offered; acked = marks.acked }
+with_marks marks row =
+    record row { committed = marks.committed; offered = marks.offered; acked = marks.acked }
 
 -- a row keeps these messages
 abbrev pub keeping : List Kept → Row → Row

@@ -15,8 +15,10 @@ use Rattle.mqb_tables.specs.Rooms.{MemberRooms}
 use Rattle.mqb_contents.specs.declared.counters.Counters.{Counters}
 
 -- outgoing rows and their rooms, with the keys of their table
-abbrev pub with_keys : List OutKey → WithRooms (List Row) (MemberRooms ℕ) → WithRooms (List Row) OutRooms
-with_keys keys rows = record { lists = rows.lists; rooms = record { members = rows.rooms; keys = keys } }
+abbrev pub with_keys : List OutKey → WithRooms (List Row) (MemberRooms ℕ)
+    → WithRooms (List Row) OutRooms
+with_keys keys rows =
+    record { lists = rows.lists; rooms = record { members = rows.rooms; keys = keys } }
 
 -- how many messages an outgoing row can keep
 abbrev pub room_of : OutRow → ℕ
@@ -31,7 +33,8 @@ counters_of s = record {
 }
 
 -- all lists, and their rooms
-abbrev pub seen : Identity → Room Identity → WithRooms (List PlainLists) (MemberRooms PlainRooms) → WithRooms Places PlaceRooms → WithRooms (List Row) OutRooms
+abbrev pub seen : Identity → Room Identity → WithRooms (List PlainLists) (MemberRooms PlainRooms)
+    → WithRooms Places PlaceRooms → WithRooms (List Row) OutRooms
     → WithRooms (List InRow) InRooms → Counters → WithRooms State StateRooms
 seen identity peers plain queues outs ins counters = record {
   lists = record {
@@ -58,7 +61,8 @@ seen identity peers plain queues outs ins counters = record {
 }
 
 -- Peers and queues are within their limits, and each peer has its plain messages.
-pub record IsInLimits (peers : List Identity) (plain : List PlainLists) (places : Places) : Type 0 where
+pub record IsInLimits (peers : List Identity) (plain : List PlainLists)
+    (places : Places) : Type 0 where
   pub few_peers : length peers ≤ MAX_PEERS
   pub few_queues : length places.queues ≤ MAX_QUEUES
   pub plain_lists : length plain ≡ length peers

@@ -10,7 +10,8 @@ use mqb_orders::{InRow, Kept};
 use mqb_plain::Outgoing;
 use mqb_queue::NewQueue;
 
-/// A change of what a manager keeps. Lists are named by numbers and lanes, so that the change back, which each change has, takes no memory.
+/// A change of what a manager keeps. Lists are named by numbers and lanes, so that the change back,
+/// which each change has, takes no memory.
 #[derive(Debug, Drop)]
 pub enum Change {
     Insert {
@@ -75,7 +76,8 @@ impl Change {
         )
     }
 
-    /// Lets go what a change puts. Where a change ends by this call, how it ends is not proved again.
+    /// Lets go what a change puts. Where a change ends by this call, how it ends
+    /// is not proved again.
     pub fn discard(self) {
         drop(self);
     }

@@ -20,7 +20,8 @@ use mqb_tables::{FIRST_EXPRESS, MAX_ROLL, PlainOuts};
 use std::alloc::Global;
 use std::marker::Model;
 
-/// What one manager keeps. Contracts see the state, and beside it how many members each list can have without memory.
+/// What one manager keeps. Contracts see the state, and beside it how many members each list can
+/// have without memory.
 #[derive(Debug, Drop)]
 pub struct Contents {
     pub(crate) identity: Identity,
@@ -118,7 +119,8 @@ impl Contents {
         self.outs.ordinals()
     }
 
-    /// The peers and destinations of the outgoing rows, each with the ordinal of the last row that has them.
+    /// The peers and destinations of the outgoing rows, each with the ordinal of the
+    /// last row that has them.
     pub fn in_use(&self) -> &IndexMap<OutKey, u32>
         ensures { LeadsToLast self.now.lists.outs result.now }
     {
@@ -142,7 +144,8 @@ impl Contents {
         self.ins.as_slice()
     }
 
-    /// The sources and destinations of the incoming rows, each with the index of the first row that has them.
+    /// The sources and destinations of the incoming rows, each with the index of the
+    /// first row that has them.
     pub fn sources(&self) -> &IndexMap<InKey, u32>
         ensures { LeadsToSource self.now.lists.ins result.now }
     {

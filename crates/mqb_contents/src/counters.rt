@@ -3,8 +3,8 @@ ghost use Rattle.mqb_tables.specs.mqb_model.rules.Numbers.{express_after};
 
 use mqb_tables::{FIRST_EXPRESS, MAX_EXPRESS};
 
-/// The numbers of the next durable message, of the next sequence and of the next express message, and the count of messages at which a sequence is
-/// full.
+/// The numbers of the next durable message, of the next sequence and of the next express message,
+/// and the count of messages at which a sequence is full.
 #[derive(Clone, Copy, Debug, PartialEq, Eq)]
 pub struct Counters {
     pub next_number: u32,

@@ -1,4 +1,5 @@
-ghost use Rattle.std.specs.Prelude.{◌≡◌, ◌<◌, ◌≤◌, [], ◌∷◌, ◌++◌, IfSome, IsSomeAnd, OnOk, Some, length, false, position, slice_get};
+ghost use Rattle.std.specs.Prelude.{◌≡◌, ◌<◌, ◌≤◌, [], ◌∷◌, ◌++◌, IfSome, IsSomeAnd, OnOk, Some};
+ghost use Rattle.std.specs.Prelude.{length, false, position, slice_get};
 ghost use Rattle.std.specs.Option.{option_map_or};
 ghost use Rattle.mqb_base.specs.declared.roomed.TheConstants.{MAX_MEMBERS};
 ghost use Rattle.mqb_tables.specs.Ends.{last_of, without_last};
@@ -15,8 +16,8 @@ use mqb_tables::sources::{lead, make_room, number_of};
 use std::alloc::Global;
 use std::marker::Model;
 
-/// The incoming rows of a manager. Contracts see them, and beside them how many there can be without memory, and the sources and destinations
-/// that the table has.
+/// The incoming rows of a manager. Contracts see them, and beside them how many there can be
+/// without memory, and the sources and destinations that the table has.
 #[derive(Debug, Drop)]
 pub(crate) struct InRows {
     rows: Roomed<InRow>,
@@ -34,7 +35,10 @@ impl Model for InRows {
 
     ghost Value = { WithRooms (List InRow) InRooms };
 
-    ghost view = { λ i. record { lists = i.rows.items; rooms = record { more = i.rows.room; keys = keys i.sources } } };
+    ghost view = { λ i. record {
+      lists = i.rows.items;
+      rooms = record { more = i.rows.room; keys = keys i.sources };
+    } };
 
     ghost invariant = { λ i. (i.rows.room ≤ MAX_MEMBERS) × LeadsToSource i.rows.items i.sources };
 }
@@ -77,7 +81,8 @@ impl InRows {
         self.rows.as_slice()
     }
 
-    /// The sources and destinations of the rows, each with the place of the first row that has them.
+    /// The sources and destinations of the rows, each with the place of the
+    /// first row that has them.
     pub(crate) fn sources(&self) -> &IndexMap<InKey, u32>
         ensures { LeadsToSource self.now.lists result.now }
     {

@@ -1,7 +1,9 @@
-//! What one manager keeps: its peers and queues, the messages of all places, the sequences that it sends and hears, and its counters.
+//! What one manager keeps: its peers and queues, the messages of all places, the sequences that it
+//! sends and hears, and its counters.
 //!
-//! It is changed by a few primitive changes. Each has a change back, and takes no memory: `make_room` takes it before. So changes can be tried,
-//! undone and made again. Contracts see the state of the definitions, and beside it how many members each list can have without memory.
+//! It is changed by a few primitive changes. Each has a change back, and takes no memory:
+//! `make_room` takes it before. So changes can be tried, undone and made again. Contracts see the
+//! state of the definitions, and beside it how many members each list can have without memory.
 #![tactic(auto)]
 
 mod change;

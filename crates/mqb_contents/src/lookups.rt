@@ -1,4 +1,5 @@
-ghost use Rattle.std.specs.Prelude.{◌≡◌, ◌+◌, ◌<◌, ◌^◌, IfSome, IsSomeAnd, length, option_and_then, position, slice_get};
+ghost use Rattle.std.specs.Prelude.{◌≡◌, ◌+◌, ◌<◌, ◌^◌, IfSome, IsSomeAnd, length, option_and_then};
+ghost use Rattle.std.specs.Prelude.{position, slice_get};
 ghost use Rattle.mqb_base.specs.Same.{same_guid};
 ghost use Rattle.mqb_contents.specs.Rows.{unless_full};
 ghost use Rattle.mqb_tables.specs.Waits.{plain_count};
@@ -37,7 +38,8 @@ impl Contents {
         self.outs.last_to(peer, destination)
     }
 
-    /// The index of the outgoing row that the next message to a destination at a peer joins. Where there is none, it begins a new one.
+    /// The index of the outgoing row that the next message to a destination at a peer joins. Where
+    /// there is none, it begins a new one.
     pub fn sequence_in_use(&self, peer: u32, destination: &QueueName) -> Option<u32>
         ensures row { option_and_then (slice_get self.now.lists.outs) result ≡
             sequence_in_use self.now.lists peer destination.now }

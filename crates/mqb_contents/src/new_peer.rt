@@ -6,8 +6,8 @@ use mqb_plain::PlainOut;
 use std::alloc::Global;
 use std::marker::Model;
 
-/// A peer for which no plain message waits, which is to join the others or was the last of them. Contracts see who it is, and the rooms of its
-/// plain messages.
+/// A peer for which no plain message waits, which is to join the others or was the last of them.
+/// Contracts see who it is, and the rooms of its plain messages.
 #[derive(Debug, Drop)]
 pub struct NewPeer {
     identity: Identity,

@@ -8,8 +8,8 @@ use mqb_orders::{KeptList, OutRow};
 use std::alloc::Global;
 use std::marker::Model;
 
-/// An outgoing row in which nothing was committed, which is to join the others or was the last of them. Contracts see its sequence, and how many
-/// messages it can keep without memory.
+/// An outgoing row in which nothing was committed, which is to join the others or was the last of
+/// them. Contracts see its sequence, and how many messages it can keep without memory.
 #[derive(Debug, Drop)]
 pub struct NewRow {
     row: OutRow,

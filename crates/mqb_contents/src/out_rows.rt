@@ -1,10 +1,13 @@
-ghost use Rattle.std.specs.Prelude.{◌≡◌, ◌<◌, ◌≤◌, [], ◌∷◌, ◌++◌, All, IsSomeAnd, IfSome, None, OnOk, Some, filter, insert, length, map, option_and_then, remove, slice_get};
+ghost use Rattle.std.specs.Prelude.{◌≡◌, ◌<◌, ◌≤◌, [], ◌∷◌, ◌++◌, All, IsSomeAnd, IfSome, None};
+ghost use Rattle.std.specs.Prelude.{OnOk, Some, filter, insert, length, map, option_and_then};
+ghost use Rattle.std.specs.Prelude.{remove, slice_get};
 ghost use Rattle.mqb_base.specs.declared.roomed.TheConstants.{MAX_MEMBERS};
 ghost use Rattle.mqb_tables.specs.Ends.{last_of, without_last};
 ghost use Rattle.mqb_contents.specs.Rooms.{kept_room};
 ghost use Rattle.mqb_tables.specs.Rooms.{AreMembersGrown, no_members};
 ghost use Rattle.mqb_contents.specs.Seen.{room_of};
-ghost use Rattle.mqb_contents.specs.Rows.{CanKeep, IsBegun, KeepsCommitted, begun_row, keeping, kept_count, marks_of, with_marks};
+ghost use Rattle.mqb_contents.specs.Rows.{CanKeep, IsBegun, KeepsCommitted, begun_row, keeping};
+ghost use Rattle.mqb_contents.specs.Rows.{kept_count, marks_of, with_marks};
 ghost use Rattle.mqb_tables.specs.Tables.{LeadsTo, LeadsToLast};
 ghost use Rattle.mqb_tables.specs.mqb_model.Lists.{with_changed};
 ghost use Rattle.mqb_orders.specs.KeptLists.{Rises};
@@ -23,8 +26,9 @@ use mqb_tables::ordinals::{enter, enter_all, make_room};
 use std::alloc::Global;
 use std::marker::Model;
 
-/// The outgoing rows of a manager. Contracts see them, and beside them how many messages each can keep without memory, how many rows there can
-/// be, and the peers and destinations that the table has.
+/// The outgoing rows of a manager. Contracts see them, and beside them how many messages
+/// each can keep without memory, how many rows there can be, and the peers and
+/// destinations that the table has.
 #[derive(Debug, Drop)]
 pub(crate) struct OutRows {
     rows: Roomed<OutRow>,
@@ -48,7 +52,9 @@ impl Model for OutRows {
 
     ghost view = { λ o. with_keys (keys o.in_use) (seen_members row_of room_of o.rows) };
 
-    ghost invariant = { λ o. (o.rows.room ≤ MAX_MEMBERS) × All (λ r. KeepsCommitted (row_of r)) o.rows.items × AreNumbered (map row_of o.rows.items) o.rows.room o.ordinals
+    ghost invariant = { λ o. (o.rows.room ≤ MAX_MEMBERS)
+        × All (λ r. KeepsCommitted (row_of r)) o.rows.items
+        × AreNumbered (map row_of o.rows.items) o.rows.room o.ordinals
         × LeadsToLast (map row_of o.rows.items) o.in_use };
 }
 
@@ -151,7 +157,8 @@ impl OutRows {
         &self.rows.as_slice()[row as usize]
     }
 
-    /// The place of the last row that leads to a destination at a peer. Where each row has an ordinal of its own, the tables tell.
+    /// The place of the last row that leads to a destination at a peer. Where each row has an
+    /// ordinal of its own, the tables tell.
     pub(crate) fn last_to(&self, peer: u32, destination: &QueueName) -> Option<u32>
         ensures row { option_and_then (slice_get self.now.lists) result ≡
             last_or None (filter (leads_to peer destination.now) self.now.lists) }

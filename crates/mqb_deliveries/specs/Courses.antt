@@ -8,8 +8,10 @@ use Rattle.mqb_posts.specs.Packets.{AreWritable}
 use Rattle.mqb_posts.specs.Posting.{IsWithin}
 use Rattle.mqb_turns.specs.Counts.{CountsGo}
 
--- It comes to the network, each manager has had as many records more as were written in it, and each packet that was sent in it is a string of the medium.
-pub record ComesTo (c : Course) (counts : ℕ → ℕ) (n_now : Network) (counts_now : ℕ → ℕ) (strings strings_now : List (List ℕ)) : Type 0 where
+-- It comes to the network, each manager has had as many records more as were written in it, and
+-- each packet that was sent in it is a string of the medium.
+pub record ComesTo (c : Course) (counts : ℕ → ℕ) (n_now : Network) (counts_now : ℕ → ℕ)
+    (strings strings_now : List (List ℕ)) : Type 0 where
   pub network : c.network ≡ n_now
   pub counted : CountsGo counts counts_now c.written
   pub posted : strings_now ≡ strings ++ map plain_spelling c.sent

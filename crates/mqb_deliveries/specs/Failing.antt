@@ -1,7 +1,8 @@
 -- What is told of a disk that failed.
 use Rattle.std.specs.List.{filter_map}
 use Rattle.std.specs.Option.{option_map_or}
-use Rattle.std.specs.Prelude.{[], ◌==◌, ◌∷◌, ◌≡◌, Bool, List, None, Option, Some, false, if◌then◌else◌, ℕ}
+use Rattle.std.specs.Prelude.{[], ◌==◌, ◌∷◌, ◌≡◌, Bool, List, None, Option, Some, false}
+use Rattle.std.specs.Prelude.{if◌then◌else◌, ℕ}
 use Rattle.mqb_network.specs.Choices as choice
 use Rattle.mqb_network.specs.Choices.{Failure}
 use Rattle.mqb_network.specs.Network.{Network, Note}
@@ -37,7 +38,8 @@ abbrev pub arrived : ℕ → Option Outcome → List Arrival
 arrived k None = []
 arrived k (Some o) = record { packet = k; outcome = o } ∷ []
 
--- How the disk of the manager at an index failed in a flow of a manager: in its pump, or under its packets.
+-- How the disk of the manager at an index failed in a flow of a manager: in its pump,
+-- or under its packets.
 abbrev pub failures_in : List Note → (pumping at : ℕ) → Reply → List Failure
 failures_in notes pumping at (reply.Flowed arrivals) = failures_at notes at arrivals
 failures_in notes pumping at reply.Stopped = if pumping == at then choice.Stopped ∷ [] else []

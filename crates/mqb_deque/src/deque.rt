@@ -1,4 +1,6 @@
-ghost use Rattle.std.specs.Prelude.{◌≡◌, List, ◌+◌, ◌<◌, ◌≤◌, ◌-◌, ◌/◌, [], ◌∷◌, ◌++◌, length, max, insert, remove, drop, slice_get, Some, IsOk, OnOk, OnErr, vec_len, vec_capacity};
+ghost use Rattle.std.specs.Prelude.{◌≡◌, List, ◌+◌, ◌<◌, ◌≤◌, ◌-◌, ◌/◌, [], ◌∷◌, ◌++◌, length, max};
+ghost use Rattle.std.specs.Prelude.{insert, remove, drop, slice_get, Some, IsOk, OnOk, OnErr};
+ghost use Rattle.std.specs.Prelude.{vec_len, vec_capacity};
 
 use crate::vacant::Vacant;
 use mqb_base::Memory;
@@ -6,8 +8,9 @@ use std::alloc::Global;
 use std::marker::Model;
 use std::mem::replace;
 
-/// A list, and room for more members. Contracts see the members and the room: how many there can be without memory, those that are there
-/// included. A member that leaves at the front vacates its slot, and the others stay where they are.
+/// A list, and room for more members. Contracts see the members and the room: how many there can be
+/// without memory, those that are there included. A member that leaves at the front vacates its
+/// slot, and the others stay where they are.
 #[derive(Debug, Drop)]
 pub struct RoomedDeque<T> {
     /// The vacated slots, and then the members.
@@ -30,7 +33,8 @@ impl<T> Model for RoomedDeque<T> {
         (l.room + l.room / 2 ≤ vec_capacity l.slots) };
 }
 
-/// Where each slot is taken, moves the members down over those that are vacated: at least half as many as there are members.
+/// Where each slot is taken, moves the members down over those that are vacated: at least half as
+/// many as there are members.
 fn make_slot<T: Drop>(slots: &mut Vec<T>, head: usize) -> usize
     requires head { head ≤ vec_len slots.old }
     requires vacated { (vec_len slots.old - head) + (vec_len slots.old - head) / 2 <
@@ -176,8 +180,8 @@ impl<T> RoomedDeque<T> {
         &self.slots.as_slice()[self.head..]
     }
 
-    /// Makes room for `more` members beside those that are there, and half as many slots again, so that a full list that members leave and join
-    /// is moved down but seldom.
+    /// Makes room for `more` members beside those that are there, and half as many slots again, so
+    /// that a full list that members leave and join is moved down but seldom.
     pub fn make_room(&mut self, more: usize) -> Result<(), Memory>
         ensures items { self.new.items ≡ self.old.items }
         ensures grows { self.old.room ≤ self.new.room }
@@ -222,7 +226,8 @@ impl<T: Vacant> RoomedDeque<T> {
         self.slots.push_reserved(item);
     }
 
-    /// Puts a member before the one at a place, or at the end. The fewer members move: those before it, or those behind it.
+    /// Puts a member before the one at a place, or at the end. The fewer members move: those before
+    /// it, or those behind it.
     pub fn insert(&mut self, at: usize, item: T)
         requires place { at ≤ length self.old.items }
         requires room { length self.old.items < self.old.room }
@@ -238,7 +243,8 @@ impl<T: Vacant> RoomedDeque<T> {
         put_in(&mut self.slots, self.head, at, item);
     }
 
-    /// Takes out the member at a place. The fewer members move: those before it, or those behind it. Where a slot cannot be filled, those behind it do.
+    /// Takes out the member at a place. The fewer members move: those before it, or those behind
+    /// it. Where a slot cannot be filled, those behind it do.
     pub fn remove(&mut self, at: usize) -> T
         requires { at < length self.old.items }
         ensures removed { slice_get self.old.items at ≡ Some result }

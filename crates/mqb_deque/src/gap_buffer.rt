@@ -1,4 +1,6 @@
-ghost use Rattle.std.specs.Prelude.{◌≡◌, List, ◌+◌, ◌<◌, ◌≤◌, ◌-◌, ◌/◌, [], ◌∷◌, ◌++◌, length, max, nat_lt, insert, remove, slice_get, Some, IsOk, OnOk, OnErr, vec_len, vec_capacity};
+ghost use Rattle.std.specs.Prelude.{◌≡◌, List, ◌+◌, ◌<◌, ◌≤◌, ◌-◌, ◌/◌, [], ◌∷◌, ◌++◌, length, max};
+ghost use Rattle.std.specs.Prelude.{nat_lt, insert, remove, slice_get, Some, IsOk, OnOk, OnErr};
+ghost use Rattle.std.specs.Prelude.{vec_len, vec_capacity};
 ghost use Rattle.mqb_deque.specs.Gaps.{around};
 
 use crate::split_slice::SplitSlice;
@@ -8,8 +10,9 @@ use std::alloc::Global;
 use std::marker::Model;
 use std::mem::replace;
 
-/// A list, and room for more members. Contracts see the members and the room: how many there can be without memory, those that are there
-/// included. A member that leaves vacates its slot, and the gap of vacated slots goes to where members leave or join.
+/// A list, and room for more members. Contracts see the members and the room: how many there can be
+/// without memory, those that are there included. A member that leaves vacates its slot, and the
+/// gap of vacated slots goes to where members leave or join.
 #[derive(Debug, Drop)]
 pub struct GapBuffer<T> {
     /// The members before the gap, the vacated slots, and the members behind it.
@@ -35,7 +38,8 @@ impl<T> Model for GapBuffer<T> {
         (vec_len l.slots ≤ l.gap + l.room) × (l.room + l.room / 2 ≤ vec_capacity l.slots) };
 }
 
-/// Where each slot is taken, closes the gap: at least half as many slots are vacated as there are members.
+/// Where each slot is taken, closes the gap: at least half as many slots are vacated
+/// as there are members.
 #[tactic(auto, using(crate::proofs::Gaps::closed))]
 fn make_slot<T: Drop>(slots: &mut Vec<T>, front: usize, gap: usize) -> usize
     requires gap { front + gap ≤ vec_len slots.old }
@@ -235,8 +239,8 @@ impl<T> GapBuffer<T> {
         SplitSlice::new(&slots[..self.front], &slots[self.front + self.gap..])
     }
 
-    /// Makes room for `more` members beside those that are there, and half as many slots again, so that a full list that members leave and join
-    /// has its gap closed but seldom.
+    /// Makes room for `more` members beside those that are there, and half as many slots again, so
+    /// that a full list that members leave and join has its gap closed but seldom.
     pub fn make_room(&mut self, more: usize) -> Result<(), Memory>
         ensures items { self.new.items ≡ self.old.items }
         ensures grows { self.old.room ≤ self.new.room }
@@ -281,7 +285,8 @@ impl<T: Vacant> GapBuffer<T> {
         push_last(&mut self.slots, self.front, self.gap, item);
     }
 
-    /// Puts a member before the one at a place, or at the end. Those between the gap and the place move, or those behind the place.
+    /// Puts a member before the one at a place, or at the end. Those between the gap and the place
+    /// move, or those behind the place.
     pub fn insert(&mut self, at: usize, item: T)
         requires place { at ≤ length self.old.items }
         requires room { length self.old.items < self.old.room }
@@ -302,7 +307,8 @@ impl<T: Vacant> GapBuffer<T> {
         }
     }
 
-    /// Takes out the member at a place. Those between the gap and the place move, or those behind the place. Where a slot cannot be filled, both do.
+    /// Takes out the member at a place. Those between the gap and the place move, or those behind
+    /// the place. Where a slot cannot be filled, both do.
     pub fn remove(&mut self, at: usize) -> T
         requires { at < length self.old.items }
         ensures removed { slice_get self.old.items at ≡ Some result }

@@ -1,4 +1,5 @@
-//! Lists with room that members leave without a move of the others: at the front, lent as one slice, or along the list, lent in two parts.
+//! Lists with room that members leave without a move of the others: at the front, lent as one
+//! slice, or along the list, lent in two parts.
 #![tactic(auto)]
 
 mod deque;

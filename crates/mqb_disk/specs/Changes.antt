@@ -11,4 +11,5 @@ Step (Cut n) old new = MayBeCut n old new
 -- what a crash may leave of these changes, the first of them first, over contents that were safe
 abbrev pub Left : List Change → List ℕ → List ℕ → Type 0
 Left [] safe new = new ≡ safe
-Left (change ∷ changes) safe new = (between : List ℕ) × Step change safe between × Left changes between new
+Left (change ∷ changes) safe new =
+    (between : List ℕ) × Step change safe between × Left changes between new

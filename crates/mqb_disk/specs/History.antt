@@ -1,4 +1,5 @@
-use Rattle.std.specs.Prelude.{◌≡◌, ◌⊎◌, ℕ, ◌+◌, ◌≤◌, List, [], ◌∷◌, ◌++◌, length, take, drop, map, reverse}
+use Rattle.std.specs.Prelude.{◌≡◌, ◌⊎◌, ℕ, ◌+◌, ◌≤◌, List, [], ◌∷◌, ◌++◌, length, take, drop}
+use Rattle.std.specs.Prelude.{map, reverse}
 use Rattle.mqb_outside.specs.Images.{Torn, MayBeCut}
 use Rattle.mqb_disk.specs.declared.trace_disk.Call.{Call}
 use Rattle.mqb_disk.specs.declared.trace_disk.Call.TheVariants as call
@@ -30,21 +31,25 @@ history bytes calls = reverse (map (event_of bytes) calls)
 -- what a read gives after these events
 abbrev pub held : List Event → List ℕ
 held [] = []
-held (Wrote at bytes ∷ events) = take at (held events) ++ bytes ++ drop (at + length bytes) (held events)
+held (Wrote at bytes ∷ events) =
+    take at (held events) ++ bytes ++ drop (at + length bytes) (held events)
 held (WasCut n ∷ events) = take n (held events)
 held (Synced ∷ events) = held events
 
 -- what a crash may leave after these events
 abbrev pub ImageAt : List Event → List ℕ → Type 0
 ImageAt [] c = c ≡ []
-ImageAt (Wrote at bytes ∷ events) c = (c ≡ held (Wrote at bytes ∷ events)) ⊎ ((d : List ℕ) × ImageAt events d × Torn at (length bytes) d c)
-ImageAt (WasCut n ∷ events) c = (c ≡ held (WasCut n ∷ events)) ⊎ ((d : List ℕ) × ImageAt events d × MayBeCut n d c)
+ImageAt (Wrote at bytes ∷ events) c = (c ≡ held (Wrote at bytes ∷ events))
+    ⊎ ((d : List ℕ) × ImageAt events d × Torn at (length bytes) d c)
+ImageAt (WasCut n ∷ events) c =
+    (c ≡ held (WasCut n ∷ events)) ⊎ ((d : List ℕ) × ImageAt events d × MayBeCut n d c)
 ImageAt (Synced ∷ events) c = c ≡ held events
 
 -- what a crash might have left after at least t of these events
 abbrev pub Since : List Event → ℕ → List ℕ → Type 0
 Since [] t c = (t ≤ 0) × ImageAt [] c
-Since (event ∷ events) t c = ((t ≤ length (event ∷ events)) × ImageAt (event ∷ events) c) ⊎ Since events t c
+Since (event ∷ events) t c =
+    ((t ≤ length (event ∷ events)) × ImageAt (event ∷ events) c) ⊎ Since events t c
 
 -- where the bytes of an event end on the disk
 abbrev pub reach_of : Event → ℕ

@@ -1,4 +1,5 @@
-use Rattle.std.specs.Prelude.{◌≡◌, ℕ, ◌+◌, ◌-◌, List, [], ◌∷◌, ◌++◌, length, true, None, Result, Ok, Err}
+use Rattle.std.specs.Prelude.{◌≡◌, ℕ, ◌+◌, ◌-◌, List, [], ◌∷◌, ◌++◌, length, true, None, Result}
+use Rattle.std.specs.Prelude.{Ok, Err}
 use Rattle.mqb_outside.specs.Disk.{View}
 use Rattle.mqb_disk.specs.History.{Event, history, held, ImageAt, Since}
 use Rattle.mqb_disk.specs.declared.trace_disk.Call.{Call}

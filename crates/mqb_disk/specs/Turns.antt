@@ -33,8 +33,8 @@ turn_by (Some Stop) fails = Stops
 turn_by (Some Fail) fails = Fails
 turn_by None fails = if fails then Fails else Works
 
--- What comes of the next device call: it works, it fails without effect, or it takes place unsynced and the power is cut off. Where one is armed to
--- stop and is to fail too, it stops.
+-- What comes of the next device call: it works, it fails without effect, or it takes place unsynced
+-- and the power is cut off. Where one is armed to stop and is to fail too, it stops.
 abbrev pub turn_of : Power → Turn
 turn_of p = if p.stopped then Fails else turn_by (due_mode p.armed) p.fails_next
 
@@ -54,4 +54,9 @@ after_turn p = if p.stopped then p else record {
 
 -- after a restart: nothing is armed
 abbrev pub after_restart : Power → Power
-after_restart p = record { armed = None; stopped = false; restart_is_armed = false; fails_next = p.restart_is_armed }
+after_restart p = record {
+  armed = None;
+  stopped = false;
+  restart_is_armed = false;
+  fails_next = p.restart_is_armed;
+}

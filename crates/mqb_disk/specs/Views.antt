@@ -21,7 +21,12 @@ memory_view d = record {
   calls = d.switch.calls;
   faults = d.switch.faults;
   reached = d.reached;
-  switch = record { arms = d.switch.arms; restarts = d.switch.restarts; last_pick = d.switch.last_pick; last_left = d.switch.last_left.contents };
+  switch = record {
+    arms = d.switch.arms;
+    restarts = d.switch.restarts;
+    last_pick = d.switch.last_pick;
+    last_left = d.switch.last_left.contents;
+  };
 }
 
 -- what it keeps

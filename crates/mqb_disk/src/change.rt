@@ -13,7 +13,8 @@ pub(crate) enum Change {
     Cut { len: usize },
 }
 
-/// Makes a write of an image that was safe, as far as the pick says. `now` has the bytes that were written.
+/// Makes a write of an image that was safe, as far as the pick says. `now` has the
+/// bytes that were written.
 fn write_again(image: &mut Image, now: &Image, at: usize, len: usize, pick: Pick)
     requires room { image.old.room ≡ now.now.room }
     requires fits { at + len ≤ image.old.room }

@@ -1,4 +1,5 @@
-ghost use Rattle.std.specs.Prelude.{◌≡◌, ◌+◌, ◌^◌, ◌<◌, ◌≤◌, Ok, IfOk, IsErr, OnOk, false, length, true};
+ghost use Rattle.std.specs.Prelude.{◌≡◌, ◌+◌, ◌^◌, ◌<◌, ◌≤◌, Ok, IfOk, IsErr, OnOk, false};
+ghost use Rattle.std.specs.Prelude.{length, true};
 ghost use Rattle.mqb_outside.specs.Faults.{HasCause};
 ghost use Rattle.mqb_outside.specs.Disk.{Counted};
 ghost use Rattle.mqb_disk.specs.FileViews.{file_view, is_shared};
@@ -12,8 +13,9 @@ use std::os::unix::fs::FileExt;
 
 /// A disk in a file of the operating system. It tells nothing of its contents.
 ///
-/// From when it is opened until it is dropped it holds the system's lock on the file, so that no other one is opened in it, here or in another program; but where both
-/// are shared, which only read it.
+/// From when it is opened until it is dropped it holds the system's lock on the file, so
+/// that no other one is opened in it, here or in another program; but where both are
+/// shared, which only read it.
 #[derive(Drop)]
 pub struct FileDisk {
     file: File,
@@ -38,7 +40,8 @@ impl FileDisk {
         }
     }
 
-    /// Opens a file that is there for reading alone, beside others that only read it. No write or cut of it is made; a sync is, since it changes nothing.
+    /// Opens a file that is there for reading alone, beside others that only read it. No write or
+    /// cut of it is made; a sync is, since it changes nothing.
     pub fn open_shared(rt: &HostRuntime, path: &str) -> Result<FileDisk, OpenFault>
         ensures shared { IfOk result (λ disk. is_shared disk ≡ true) }
         ensures calls { IfOk result (λ disk. (file_view disk).calls ≡ 0) }
@@ -51,7 +54,8 @@ impl FileDisk {
         }
     }
 
-    /// Opens a file, and makes it where it is not there. Its folder is synced, so that a crash does not take its name away.
+    /// Opens a file, and makes it where it is not there. Its folder is synced, so that a crash does
+    /// not take its name away.
     pub fn create(rt: &HostRuntime, path: &str) -> Result<FileDisk, OpenFault>
         ensures shared { IfOk result (λ disk. is_shared disk ≡ false) }
         ensures calls { IfOk result (λ disk. (file_view disk).calls ≡ 0) }
@@ -125,7 +129,8 @@ impl FileDisk {
     }
 }
 
-// Takes the system's lock on a file, without waiting. The system takes it back once the file is closed, also where the program was killed.
+// Takes the system's lock on a file, without waiting. The system takes it back once the file is
+// closed, also where the program was killed.
 fn locked(file: File) -> io::Result<File> {
     match file.try_lock() {
         Ok(()) => Ok(file),

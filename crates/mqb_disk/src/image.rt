@@ -1,4 +1,5 @@
-ghost use Rattle.std.specs.Prelude.{◌≡◌, ◌+◌, ◌≤◌, ℕ, [], length, take, drop, max, replicate, IfOk, ◌++◌, vec_len, vec_capacity};
+ghost use Rattle.std.specs.Prelude.{◌≡◌, ◌+◌, ◌≤◌, ℕ, [], length, take, drop, max, replicate, IfOk};
+ghost use Rattle.std.specs.Prelude.{◌++◌, vec_len, vec_capacity};
 ghost use Rattle.mqb_outside.specs.Images.{Written};
 ghost use Rattle.mqb_disk.specs.Extent.{Extent, standing};
 
@@ -6,8 +7,9 @@ use mqb_base::Memory;
 use std::alloc::Global;
 use std::marker::Model;
 
-/// The contents of a disk, in a buffer whose room is reserved when it is made: no later call takes memory. Past the contents the buffer keeps
-/// what stood there last, and it holds no more than was written: nothing is touched before that.
+/// The contents of a disk, in a buffer whose room is reserved when it is made: no later call takes
+/// memory. Past the contents the buffer keeps what stood there last, and it holds no more than was
+/// written: nothing is touched before that.
 #[derive(Debug, Drop)]
 pub(crate) struct Image {
     buffer: Vec<u8>,

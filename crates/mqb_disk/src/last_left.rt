@@ -1,4 +1,5 @@
-//! What the last restart left of a disk. Proofs alone read it: it takes no memory, and what makes it does nothing at run time.
+//! What the last restart left of a disk. Proofs alone read it: it takes no memory, and what makes
+//! it does nothing at run time.
 ghost use Rattle.std.specs.Prelude.{◌≡◌, ℕ, List, Option, Some, None};
 ghost use Rattle.std.specs.Borrow.{ftrue};
 

@@ -1,7 +1,8 @@
 //! Disks: in memory one whose power can be cut off and one that keeps its calls, and one in a file.
 //!
-//! A `MemoryDisk` has the bytes that a read gives, the bytes that were safe at the last sync, and the ranges that were written since. A restart builds
-//! from these what a crash leaves. A call takes no memory.
+//! A `MemoryDisk` has the bytes that a read gives, the bytes that were safe at the last sync,
+//! and the ranges that were written since. A restart builds from these what a crash leaves. A
+//! call takes no memory.
 #![tactic(auto)]
 
 mod change;

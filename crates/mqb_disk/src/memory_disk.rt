@@ -1,4 +1,5 @@
-ghost use Rattle.std.specs.Prelude.{◌≡◌, ◌+◌, ◌≤◌, ◌<◌, ◌^◌, ◌↔◌, [], ◌∷◌, ◌++◌, length, take, min, IfOk, vec_len, vec_capacity, false, None, true, IsTrue};
+ghost use Rattle.std.specs.Prelude.{◌≡◌, ◌+◌, ◌≤◌, ◌<◌, ◌^◌, ◌↔◌, [], ◌∷◌, ◌++◌, length, take, min};
+ghost use Rattle.std.specs.Prelude.{IfOk, vec_len, vec_capacity, false, None, true, IsTrue};
 ghost use Rattle.mqb_outside.specs.Images.{Written, IsCut};
 ghost use Rattle.mqb_outside.specs.Disk.{IsSettled};
 ghost use Rattle.mqb_outside.specs.declared.disk.TheConstants.{MAX_DISK};
@@ -18,7 +19,8 @@ const MAX_CHANGES: usize = 64;
 
 /// A disk in memory whose power can be cut off. It begins empty.
 ///
-/// A write past its capacity fails, and so does a write or a cut that would be the 65th since the last sync.
+/// A write past its capacity fails, and so does a write or a cut that would be the 65th
+/// since the last sync.
 #[derive(Debug, Drop)]
 pub struct MemoryDisk {
     // What a read gives.
@@ -138,7 +140,8 @@ impl Disk for MemoryDisk {
     ghost use Rattle.mqb_outside.specs.Images.{Each, Same, Follows, Torn, MayBeCut};
     ghost use Rattle.mqb_outside.specs.Disk.{OnlyReads, Elapses, Counted, reached_by};
     ghost use Rattle.mqb_disk.specs.Turns.{turn_of, after_turn};
-    ghost use Rattle.mqb_disk.specs.Views.{memory_view, stored, changes_of, contents, power_of, room, noted, Takes};
+    ghost use Rattle.mqb_disk.specs.Views.{memory_view, stored, changes_of, contents, power_of};
+    ghost use Rattle.mqb_disk.specs.Views.{room, noted, Takes};
     ghost use Rattle.mqb_disk.specs.lemmas.Views.{memory_lawful};
     ghost use Rattle.mqb_disk.specs.declared.change.Change.TheVariants.{Wrote, Cut};
 

@@ -68,7 +68,8 @@ impl PowerSwitch {
         }
     }
 
-    /// Counts a device call, and says what comes of it. One that fails or stops is counted as a fault.
+    /// Counts a device call, and says what comes of it. One that fails or stops
+    /// is counted as a fault.
     pub(crate) fn turn(&mut self) -> Turn
         ensures turn { result ≡ turn_of (power_in self.old) }
         ensures power { power_in self.new ≡ after_turn (power_in self.old) }

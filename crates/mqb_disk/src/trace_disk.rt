@@ -1,4 +1,5 @@
-ghost use Rattle.std.specs.Prelude.{◌≡◌, ◌+◌, ◌-◌, ◌≤◌, ◌<◌, [], ◌∷◌, ◌++◌, length, min, IfOk, OnOk, OnErr, IsTrue, vec_len, vec_capacity};
+ghost use Rattle.std.specs.Prelude.{◌≡◌, ◌+◌, ◌-◌, ◌≤◌, ◌<◌, [], ◌∷◌, ◌++◌, length, min, IfOk};
+ghost use Rattle.std.specs.Prelude.{OnOk, OnErr, IsTrue, vec_len, vec_capacity};
 ghost use Rattle.mqb_outside.specs.Disk.{IsSettled};
 ghost use Rattle.mqb_outside.specs.Faults.{Rose};
 ghost use Rattle.std.specs.List.{All};
@@ -10,7 +11,8 @@ use mqb_base::{Failed, Memory};
 use mqb_outside::{Disk, MAX_DISK, reach};
 use std::alloc::Global;
 
-/// A call that changed a disk. The bytes of a write stand among those of all writes, from `from` on.
+/// A call that changed a disk. The bytes of a write stand among those of all
+/// writes, from `from` on.
 #[derive(Clone, Copy, Debug, PartialEq, Eq)]
 pub enum Call {
     Wrote { at: usize, from: usize, len: usize },
@@ -18,7 +20,8 @@ pub enum Call {
     Synced,
 }
 
-/// A disk in memory that keeps its calls, so that it tells what a crash at each earlier moment might have left. It begins empty.
+/// A disk in memory that keeps its calls, so that it tells what a crash at each earlier moment
+/// might have left. It begins empty.
 #[derive(Debug, Drop)]
 pub struct TraceDisk {
     current: Image,
@@ -44,9 +47,11 @@ pub struct TraceDisk {
 
 impl TraceDisk {
     ghost use Rattle.mqb_disk.specs.History.{Wrote as wrote, WasCut as was_cut};
-    ghost use Rattle.mqb_disk.specs.TraceViews.{history_of, calls_of, written_of, reads_of, room, bytes_left, calls_left};
+    ghost use Rattle.mqb_disk.specs.TraceViews.{history_of, calls_of, written_of, reads_of, room};
+    ghost use Rattle.mqb_disk.specs.TraceViews.{bytes_left, calls_left};
 
-    /// It keeps `calls` calls and `capacity` written bytes, and at most `MAX_DISK` of these. A call past that fails.
+    /// It keeps `calls` calls and `capacity` written bytes, and at most `MAX_DISK` of these. A
+    /// call past that fails.
     pub fn new(alloc: Global, capacity: usize, calls: u32) -> Result<TraceDisk, Memory>
         ensures empty { IfOk result (λ disk. (⟦<TraceDisk as Disk>⟧.view disk).reads []) }
         ensures room { IfOk result (λ disk. room disk ≡ min capacity MAX_DISK) }
@@ -156,8 +161,10 @@ impl Disk for TraceDisk {
     ghost use Rattle.mqb_outside.specs.Images.{Each, Same, Follows, Written, Torn, IsCut, MayBeCut};
     ghost use Rattle.mqb_outside.specs.Disk.{OnlyReads, Elapses, Counted, reached_by};
     ghost use Rattle.mqb_outside.specs.Faults.{HasCause};
-    ghost use Rattle.mqb_disk.specs.History.{Wrote as wrote, WasCut as was_cut, Synced as was_synced};
-    ghost use Rattle.mqb_disk.specs.TraceViews.{trace_view, history_of, written_of, reads_of, room, bytes_left, calls_left, Keeps, Lists, Uses};
+    ghost use Rattle.mqb_disk.specs.History.{Wrote as wrote, WasCut as was_cut};
+    ghost use Rattle.mqb_disk.specs.History.{Synced as was_synced};
+    ghost use Rattle.mqb_disk.specs.TraceViews.{trace_view, history_of, written_of, reads_of, room};
+    ghost use Rattle.mqb_disk.specs.TraceViews.{bytes_left, calls_left, Keeps, Lists, Uses};
     ghost use Rattle.mqb_disk.specs.lemmas.TraceViews.{trace_lawful};
 
     ghost view = { trace_view };

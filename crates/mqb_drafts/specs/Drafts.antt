@@ -5,7 +5,8 @@ use Rattle.mqb_contents.specs.mqb_model.rules.Effects.{Effect}
 use Rattle.mqb_contents.specs.mqb_model.state.State.{State}
 use Rattle.mqb_contents.specs.Rooms.{StateRooms}
 
--- what was done so far, the state before it, the rooms that this has by now, and how many messages came in since
+-- what was done so far, the state before it, the rooms that this has by now, and how many
+-- messages came in since
 pub record Drafted : Type 0 where
   pub effect : Effect
   pub start : State

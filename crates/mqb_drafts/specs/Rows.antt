@@ -1,5 +1,6 @@
 -- The steps in which an outgoing row gets a message, and is acknowledged.
-use Rattle.std.specs.Prelude.{[], ◌++◌, ◌+◌, ◌<◌, ◌∷◌, ◌≡◌, ◌≤◌, All, IsSomeAnd, length, slice_get, take, true, ℕ}
+use Rattle.std.specs.Prelude.{[], ◌++◌, ◌+◌, ◌<◌, ◌∷◌, ◌≡◌, ◌≤◌, All, IsSomeAnd, length, slice_get}
+use Rattle.std.specs.Prelude.{take, true, ℕ}
 use Rattle.mqb_base.specs.Bits.{keeps_dead}
 use Rattle.mqb_base.specs.declared.message.Message.{Message}
 use Rattle.mqb_contents.specs.Rows.{keeping}
@@ -29,4 +30,5 @@ with_acked number row = record row { acked = number }
 
 -- What an outgoing row keeps before an index has the dead-letter bit.
 abbrev pub StaysBefore : State → ℕ → ℕ → Type 0
-StaysBefore s row k = IsSomeAnd (slice_get s.outs row) (λ r. (k ≤ length r.kept) × All (λ kept. keeps_dead kept.message ≡ true) (take k r.kept))
+StaysBefore s row k = IsSomeAnd (slice_get s.outs row)
+    (λ r. (k ≤ length r.kept) × All (λ kept. keeps_dead kept.message ≡ true) (take k r.kept))

@@ -1,5 +1,6 @@
 //! How outgoing rows are acknowledged.
-ghost use Rattle.std.specs.Prelude.{◌≡◌, ◌-◌, ◌<◌, ◌≤◌, IfOk, IsSomeAnd, OnOk, All, drop, length, slice_get, false, true};
+ghost use Rattle.std.specs.Prelude.{◌≡◌, ◌-◌, ◌<◌, ◌≤◌, IfOk, IsSomeAnd, OnOk, All, drop, length};
+ghost use Rattle.std.specs.Prelude.{slice_get, false, true};
 ghost use Rattle.mqb_contents.specs.Rooms.{IsGrown};
 ghost use Rattle.mqb_contents.specs.Rows.{kept_count, with_out};
 ghost use Rattle.mqb_drafts.specs.Drafts.{HasNext};
@@ -12,7 +13,8 @@ use mqb_base::Memory;
 use mqb_contents::{Change, RowMarks};
 
 impl Draft {
-    /// An outgoing row is acknowledged up to a number: what it keeps up to that leaves, but what has the dead-letter bit.
+    /// An outgoing row is acknowledged up to a number: what it keeps up to that leaves, but what
+    /// has the dead-letter bit.
     pub fn acknowledge(&mut self, row: u32, number: u32) -> Result<(), Memory>
         requires { row < length self.old.effect.state.outs }
         ensures ok { OnOk result (self.new.effect ≡ without_line self.old.effect
@@ -43,7 +45,8 @@ impl Draft {
         self.change(Change::Mark { row, marks })
     }
 
-    /// What an outgoing row keeps up to a number leaves, but what has the dead-letter bit. What is above the number is not looked at.
+    /// What an outgoing row keeps up to a number leaves, but what has the dead-letter bit. What is
+    /// above the number is not looked at.
     fn release(&mut self, row: u32, number: u32) -> Result<(), Memory>
         requires { row < length self.old.effect.state.outs }
         ensures ok { OnOk result (self.new.effect ≡ without_line self.old.effect
@@ -72,7 +75,8 @@ impl Draft {
         index < kept.len() && kept.get(index).number <= number
     }
 
-    /// The message that a row keeps at an index leaves, but if it has the dead-letter bit. The answer is the index of the one that stood behind it.
+    /// The message that a row keeps at an index leaves, but if it has the dead-letter bit. The
+    /// answer is the index of the one that stood behind it.
     fn release_at(&mut self, row: u32, index: u32, number: u32) -> Result<u32, Memory>
         requires up_to { IsSomeAnd (slice_get self.old.effect.state.outs row)
             (λ r. IsSomeAnd (slice_get r.kept index) (λ k. k.number ≤ number)) }

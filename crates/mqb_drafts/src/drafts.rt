@@ -1,5 +1,7 @@
-ghost use Rattle.std.specs.Prelude.{◌≡◌, ◌+◌, ◌<◌, ◌≤◌, [], ◌∷◌, IsSome, IsSomeAnd, OnOk, length, slice_get};
-ghost use Rattle.mqb_contents.specs.Changes.{AllReady, Can, HasRoom, changed, held, inverse, lists_after, messages_back, redone, rooms_redone};
+ghost use Rattle.std.specs.Prelude.{◌≡◌, ◌+◌, ◌<◌, ◌≤◌, [], ◌∷◌, IsSome, IsSomeAnd, OnOk};
+ghost use Rattle.std.specs.Prelude.{length, slice_get};
+ghost use Rattle.mqb_contents.specs.Changes.{AllReady, Can, HasRoom, changed, held, inverse};
+ghost use Rattle.mqb_contents.specs.Changes.{lists_after, messages_back, redone, rooms_redone};
 ghost use Rattle.mqb_contents.specs.Rooms.{IsGrown};
 ghost use Rattle.mqb_contents.specs.mqb_model.rules.Effects.{begun, without_line};
 ghost use Rattle.mqb_contents.specs.mqb_model.state.Places.{put_at, with_plain, without_at};
@@ -16,7 +18,8 @@ use mqb_plain::Outgoing;
 use std::alloc::Global;
 use std::marker::Model;
 
-/// A state in which changes are tried, and the lines of what was done so far. What a manager keeps is large, and is not moved.
+/// A state in which changes are tried, and the lines of what was done so far. What a manager keeps
+/// is large, and is not moved.
 #[derive(Debug, Drop)]
 pub struct Draft {
     pub(crate) contents: Box<Contents>,
@@ -131,7 +134,8 @@ impl Draft {
         contents
     }
 
-    /// Makes room for so many changes at once. Contracts see nothing of it: a change makes room for itself.
+    /// Makes room for so many changes at once. Contracts see nothing of it: a change
+    /// makes room for itself.
     pub(crate) fn make_room(&mut self, changes: usize) -> Result<(), Memory>
         ensures { self.new ≡ self.old }
     {

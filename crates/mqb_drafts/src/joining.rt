@@ -1,12 +1,14 @@
 //! How messages join the sequences that are sent.
-ghost use Rattle.std.specs.Prelude.{◌≡◌, ◌+◌, ◌<◌, ◌≤◌, IfOk, IsSomeAnd, IsTrue, OnOk, length, slice_get};
+ghost use Rattle.std.specs.Prelude.{◌≡◌, ◌+◌, ◌<◌, ◌≤◌, IfOk, IsSomeAnd, IsTrue, OnOk};
+ghost use Rattle.std.specs.Prelude.{length, slice_get};
 ghost use Rattle.mqb_contents.specs.Rooms.{IsGrown};
 ghost use Rattle.mqb_contents.specs.Rows.{with_out};
 ghost use Rattle.mqb_drafts.specs.Drafts.{HasNext, OrdinalsRise};
 ghost use Rattle.mqb_drafts.specs.Rows.{LacksLast, committing, keeping_last};
 ghost use Rattle.mqb_contents.specs.mqb_model.declared.limits.TheConstants.{MAX_ORDINAL};
 ghost use Rattle.mqb_contents.specs.mqb_model.rules.Effects.{without_line};
-ghost use Rattle.mqb_contents.specs.mqb_model.rules.Sequences.{join, may_join, new_sequence, with_kept, with_sequence};
+ghost use Rattle.mqb_contents.specs.mqb_model.rules.Sequences.{join, may_join, new_sequence};
+ghost use Rattle.mqb_contents.specs.mqb_model.rules.Sequences.{with_kept, with_sequence};
 
 use crate::drafts::Draft;
 use mqb_base::{Memory, Message, QueueName, SequenceId};

@@ -1,8 +1,9 @@
 //! A state in which changes are tried.
 //!
-//! Rules change a `Draft` by a few calls, each of which may want memory. `keep` answers what became of the state, and the changes that lead back:
-//! `redo` makes them, and takes none. `take_back` does that at once. Contracts see what was done so far, the state before it, and how many messages came
-//! in since.
+//! Rules change a `Draft` by a few calls, each of which may want memory. `keep` answers what became
+//! of the state, and the changes that lead back: `redo` makes them, and takes none. `take_back`
+//! does that at once. Contracts see what was done so far, the state before it, and how many
+//! messages came in since.
 #![tactic(auto)]
 
 mod acknowledging;

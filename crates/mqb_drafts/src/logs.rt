@@ -6,7 +6,8 @@ use mqb_contents::Change;
 use std::alloc::Global;
 use std::marker::Model;
 
-/// Changes, the last that joined them first. Contracts see them in that order, and how many there can be without memory.
+/// Changes, the last that joined them first. Contracts see them in that order, and how many there
+/// can be without memory.
 #[derive(Debug, Drop)]
 pub struct Log {
     changes: Roomed<Change>,

@@ -51,7 +51,8 @@ impl Draft {
         self.take_numbers(1)
     }
 
-    /// So many numbers of durable messages are taken. Each of these is about to make two changes, so there is room for them then.
+    /// So many numbers of durable messages are taken. Each of these is about to make two changes,
+    /// so there is room for them then.
     pub fn take_numbers(&mut self, count: u32) -> Result<(), Memory>
         requires { self.old.effect.state.next_number + count < 2 ^ 32 }
         ensures ok { OnOk result (self.new.effect ≡ without_line self.old.effect

@@ -1,4 +1,5 @@
-ghost use Rattle.std.specs.Prelude.{◌≡◌, ◌<◌, ◌≤◌, ◌++◌, [], ◌∷◌, IsSomeAnd, OnOk, length, remove, slice_get};
+ghost use Rattle.std.specs.Prelude.{◌≡◌, ◌<◌, ◌≤◌, ◌++◌, [], ◌∷◌, IsSomeAnd, OnOk, length};
+ghost use Rattle.std.specs.Prelude.{remove, slice_get};
 ghost use Rattle.mqb_contents.specs.Rooms.{IsGrown};
 ghost use Rattle.mqb_contents.specs.Rows.{deciding, keeping, with_in, with_out};
 ghost use Rattle.mqb_contents.specs.mqb_model.records.Offered.{with_offered};
@@ -13,7 +14,8 @@ use mqb_orders::InRow;
 impl Draft {
     /// The message that an outgoing row keeps at an index leaves.
     pub fn take_out_kept(&mut self, row: u32, index: u32) -> Result<(), Memory>
-        requires { IsSomeAnd (slice_get self.old.effect.state.outs row) (λ r. index < length r.kept) }
+        requires { IsSomeAnd (slice_get self.old.effect.state.outs row)
+            (λ r. index < length r.kept) }
         ensures ok { OnOk result (self.new.effect ≡ without_line self.old.effect
             (with_out (λ r. keeping (remove r.kept index) r) self.old.effect.state row)) }
         ensures start { self.new.start ≡ self.old.start }

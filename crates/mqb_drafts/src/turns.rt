@@ -1,5 +1,6 @@
 ghost use Rattle.std.specs.Prelude.{◌≡◌, ◌≤◌, [], IfOk, length};
-ghost use Rattle.mqb_contents.specs.Changes.{AllReady, messages, messages_back, redone, rooms_redone};
+ghost use Rattle.mqb_contents.specs.Changes.{AllReady, messages, messages_back};
+ghost use Rattle.mqb_contents.specs.Changes.{redone, rooms_redone};
 
 use crate::logs::Log;
 use mqb_base::Memory;
@@ -35,7 +36,8 @@ pub fn redo(contents: &mut Contents, mut log: Log)
     log.discard();
 }
 
-/// Makes the changes of a log, and answers the changes back. They are made also where there is no memory for those.
+/// Makes the changes of a log, and answers the changes back. They are made also where there is
+/// no memory for those.
 pub fn turned(contents: &mut Contents, mut log: Log, alloc: Global) -> Result<Log, Memory>
     requires { AllReady contents.old log.items }
     ensures lists { contents.new.lists ≡ redone contents.old.lists log.items }

@@ -1,5 +1,6 @@
 -- The entries of a store: their grammar, and the first field outside it.
-use Rattle.std.specs.Prelude.{ℕ, ◌==◌, List, length, find, Option, Some, None, Result, Ok, if◌then◌else◌}
+use Rattle.std.specs.Prelude.{ℕ, ◌==◌, List, length, find, Option, Some, None, Result}
+use Rattle.std.specs.Prelude.{Ok, if◌then◌else◌}
 use Rattle.mqb_fields.specs.Reading.{◌>>=◌, Reading, rest_of, number_at}
 use Rattle.mqb_entries.specs.declared.faults.EntryFault.{EntryFault}
 use Rattle.mqb_entries.specs.declared.kinds.EntryKind.{EntryKind}
@@ -11,8 +12,11 @@ use Rattle.mqb_base.specs.declared.queues.EntryPlace.TheVariants as place
 use Rattle.mqb_entries.specs.declared.entry.ArrivedPart.{ArrivedPart}
 use Rattle.mqb_entries.specs.declared.entry.ArrivedPart.TheVariants as part
 use Rattle.mqb_entries.specs.declared.entry.Entry.{Entry}
-use Rattle.mqb_entries.specs.declared.entry.Entry.TheVariants.{Identity, Peer, CreateQueue, Commit, Plain, Offered, Arrived, Taken, Purged, Ticked, Roll}
-use Rattle.mqb_entries.specs.Fields.{outside, field, u8_at, u16_at, u32_at, address_at, guid_at, id_at, name_at, packet_at, flag_at, public_at}
+use Rattle.mqb_entries.specs.declared.entry.Entry.TheVariants.{Identity, Peer, CreateQueue, Commit}
+use Rattle.mqb_entries.specs.declared.entry.Entry.TheVariants.{Plain, Offered, Arrived, Taken}
+use Rattle.mqb_entries.specs.declared.entry.Entry.TheVariants.{Purged, Ticked, Roll}
+use Rattle.mqb_entries.specs.Fields.{outside, field, u8_at, u16_at, u32_at, address_at, guid_at}
+use Rattle.mqb_entries.specs.Fields.{id_at, name_at, packet_at, flag_at, public_at}
 use Rattle.mqb_entries.specs.Lists.{many, count_at, start}
 use Rattle.mqb_entries.specs.Members.{op_at, mark_at}
 use Rattle.mqb_entries.specs.Kinds.{kinds, code_of}
@@ -33,10 +37,21 @@ queue_at r = do
   transactional ← flag_at public.1
   quota ← u32_at transactional.1
   journal ← flag_at quota.1
-  Ok (record { name = name.0; number = number.0; public = public.0; transactional = transactional.0; quota = quota.0; journal = journal.0 }, journal.1)
+  Ok (
+    record {
+      name = name.0;
+      number = number.0;
+      public = public.0;
+      transactional = transactional.0;
+      quota = quota.0;
+      journal = journal.0;
+    },
+    journal.1,
+  )
 
 -- a few members behind their count
-abbrev pub few_at : {X : Type 0} → (Reading → Result (X × Reading) EntryFault) → Reading → Result (List X × Reading) EntryFault
+abbrev pub few_at : {X : Type 0} → (Reading → Result (X × Reading) EntryFault) → Reading
+    → Result (List X × Reading) EntryFault
 few_at member r = do
   count ← count_at 1 1 MAX_FEW r
   many member count.0 count.1
@@ -48,7 +63,8 @@ numbers_at r = do
   many u32_at count.0 count.1
 
 -- a queue's number in a place that begins at r
-abbrev pub queue_in : Reading → (ℕ → EntryPlace) → Reading → Result (EntryPlace × Reading) EntryFault
+abbrev pub queue_in : Reading → (ℕ → EntryPlace) → Reading
+    → Result (EntryPlace × Reading) EntryFault
 queue_in r place behind = do
   queue ← field r (number_at 4 behind)
   Ok (place queue.0, queue.1)
@@ -131,7 +147,8 @@ fields_at kind.Purged r = purged_at r
 fields_at kind.Ticked r = u32_at r >>= λ now. Ok (Ticked now.0, now.1)
 fields_at kind.Roll r = count_at 4 1 MAX_ROLL r >>= λ count. Ok (Roll count.0, count.1)
 
-abbrev pub kind_in : Reading → ℕ × Reading → Option EntryKind → Result (EntryKind × Reading) EntryFault
+abbrev pub kind_in : Reading → ℕ × Reading → Option EntryKind
+    → Result (EntryKind × Reading) EntryFault
 kind_in r byte (Some kind) = Ok (kind, byte.1)
 kind_in r byte None = outside r
 

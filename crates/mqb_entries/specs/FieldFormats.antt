@@ -6,7 +6,8 @@ use Rattle.mqb_entries.specs.Formats.{IsBytes}
 
 pub record IsWidth (width : ℕ) : Type 0 where
   pub count : (n : ℕ) → length (bytes_of width n) ≡ width
-  pub back : (bytes : List ℕ) → IsBytes bytes → length bytes ≡ width → (number_of width bytes < 256 ^ width) × (bytes_of width (number_of width bytes) ≡ bytes)
+  pub back : (bytes : List ℕ) → IsBytes bytes → length bytes ≡ width
+      → (number_of width bytes < 256 ^ width) × (bytes_of width (number_of width bytes) ≡ bytes)
 
 -- the text up to a place was read
 pub record Spans (r : Reading) (text : List ℕ) (after : Reading) : Type 0 where

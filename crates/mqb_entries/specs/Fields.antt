@@ -1,5 +1,6 @@
 -- The fields of entries, at a place of the bytes.
-use Rattle.std.specs.Prelude.{ℕ, Bool, true, false, ◌==◌, is_none, List, Option, Some, None, Result, Ok, Err, if◌then◌else◌}
+use Rattle.std.specs.Prelude.{ℕ, Bool, true, false, ◌==◌, is_none, List, Option, Some, None, Result}
+use Rattle.std.specs.Prelude.{Ok, Err, if◌then◌else◌}
 use Rattle.mqb_base.specs.declared.ids.Guid.{Guid}
 use Rattle.mqb_base.specs.declared.ids.MessageId.{MessageId}
 use Rattle.mqb_base.specs.Names.{name_fault}

@@ -11,6 +11,8 @@ abbrev pub listed : {M : Type 0} → (Reading → Result (M × Reading) EntryFau
 listed member (Spelled bytes count) = unwrap_or (members_of member count bytes.now) []
 listed member (Values members) = members.now
 
-abbrev pub IsList : {M : Type 0} → (Reading → Result (M × Reading) EntryFault) → (M → List ℕ) → (M → Type 0) → Form M → Type 0
-IsList member spell Fits (Spelled bytes count) = AreSpelled spell Fits count bytes.now (listed member (Spelled bytes count))
+abbrev pub IsList : {M : Type 0} → (Reading → Result (M × Reading) EntryFault) → (M → List ℕ)
+    → (M → Type 0) → Form M → Type 0
+IsList member spell Fits (Spelled bytes count) =
+    AreSpelled spell Fits count bytes.now (listed member (Spelled bytes count))
 IsList member spell Fits (Values members) = length members.now ≤ MAX_LISTED

@@ -1,10 +1,13 @@
 use Rattle.std.specs.Prelude.{ℕ, List, [], ◌∷◌}
 use Rattle.mqb_entries.specs.declared.kinds.EntryKind.{EntryKind}
-use Rattle.mqb_entries.specs.declared.kinds.EntryKind.TheVariants.{Identity, Peer, CreateQueue, Commit, Plain, Offered, Arrived, Taken, Purged, Ticked, Roll}
+use Rattle.mqb_entries.specs.declared.kinds.EntryKind.TheVariants.{Identity, Peer, CreateQueue}
+use Rattle.mqb_entries.specs.declared.kinds.EntryKind.TheVariants.{Commit, Plain, Offered, Arrived}
+use Rattle.mqb_entries.specs.declared.kinds.EntryKind.TheVariants.{Taken, Purged, Ticked, Roll}
 
 -- the kinds of entries
 abbrev pub kinds : List EntryKind
-kinds = Identity ∷ Peer ∷ CreateQueue ∷ Commit ∷ Plain ∷ Offered ∷ Arrived ∷ Taken ∷ Purged ∷ Ticked ∷ Roll ∷ []
+kinds = Identity ∷ Peer ∷ CreateQueue ∷ Commit ∷ Plain ∷ Offered ∷ Arrived ∷ Taken ∷ Purged ∷ Ticked
+    ∷ Roll ∷ []
 
 -- the first byte of an entry of a kind
 abbrev pub code_of : EntryKind → ℕ

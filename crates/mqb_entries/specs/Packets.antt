@@ -1,4 +1,5 @@
--- A packet of an entry: bytes, bytes that were read, or a message that is spelled once, where the entry is put.
+-- A packet of an entry: bytes, bytes that were read, or a message that is spelled once,
+-- where the entry is put.
 use Rattle.std.specs.Prelude.{◌≡◌, ℕ, ◌^◌, ◌<◌, ◌≤◌, List, length, None}
 use Rattle.mqb_base.specs.Messages.{IsWellFormed}
 use Rattle.mqb_base.specs.declared.ids.Guid.{Guid}
@@ -34,7 +35,8 @@ shown (Spelled bytes) = bytes.now
 shown (Heard view) = view.now.whole.now
 shown (Message message to size) = told message.now to
 
--- it has fewer than 2^32 bytes; what was heard was read from them, and those of a message were counted
+-- it has fewer than 2^32 bytes; what was heard was read from them, and those of a
+-- message were counted
 abbrev pub IsShown : PacketForm → Type 0
 IsShown (Spelled bytes) = length bytes.now < 2 ^ 32
 IsShown (Heard view) = IsLent (lent.User view.now) × (length view.now.whole.now < 2 ^ 32)

@@ -11,12 +11,16 @@ use Rattle.mqb_base.specs.declared.queues.EntryPlace.TheVariants as place
 use Rattle.mqb_entries.specs.declared.entry.ArrivedPart.{ArrivedPart}
 use Rattle.mqb_entries.specs.declared.entry.ArrivedPart.TheVariants as part
 use Rattle.mqb_entries.specs.declared.entry.Entry.{Entry}
-use Rattle.mqb_entries.specs.declared.entry.Entry.TheVariants.{Identity, Peer, CreateQueue, Commit, Plain, Offered, Arrived, Taken, Purged, Ticked, Roll}
+use Rattle.mqb_entries.specs.declared.entry.Entry.TheVariants.{Identity, Peer, CreateQueue, Commit}
+use Rattle.mqb_entries.specs.declared.entry.Entry.TheVariants.{Plain, Offered, Arrived, Taken}
+use Rattle.mqb_entries.specs.declared.entry.Entry.TheVariants.{Purged, Ticked, Roll}
 use Rattle.mqb_entries.specs.declared.kinds.EntryKind.{EntryKind}
 use Rattle.mqb_entries.specs.declared.kinds.EntryKind.TheVariants as kind
 use Rattle.mqb_entries.specs.Kinds.{code_of}
 use Rattle.mqb_entries.specs.declared.limits.TheConstants.{MAX_FEW, MAX_LISTED, MAX_ROLL}
-use Rattle.mqb_entries.specs.Spelled.{spelled_guid, spelled_id, spelled_name, spelled_packet, spelled_flag, spelled_public, spelled_op, spelled_mark, IsWord, IsName, IsPacket, IsGuid, IsId, IsOp, IsMark}
+use Rattle.mqb_entries.specs.Spelled.{spelled_guid, spelled_id, spelled_name, spelled_packet}
+use Rattle.mqb_entries.specs.Spelled.{spelled_flag, spelled_public, spelled_op, spelled_mark}
+use Rattle.mqb_entries.specs.Spelled.{IsWord, IsName, IsPacket, IsGuid, IsId, IsOp, IsMark}
 
 abbrev pub spelled_identity : IdentityView → List ℕ
 spelled_identity m = spelled_name m.host ++ spelled_guid m.guid ++ m.address
@@ -69,7 +73,8 @@ spelled_fields (CreateQueue queue) = spelled_queue queue
 spelled_fields (Commit now ops) = bytes_of 4 now ++ spelled_ops ops
 spelled_fields (Plain now packet) = bytes_of 4 now ++ spelled_packet packet
 spelled_fields (Offered marks) = spelled_marks marks
-spelled_fields (Arrived now released part) = bytes_of 4 now ++ spelled_numbers released ++ spelled_part part
+spelled_fields (Arrived now released part) =
+    bytes_of 4 now ++ spelled_numbers released ++ spelled_part part
 spelled_fields (Taken now place id) = bytes_of 4 now ++ spelled_place place ++ spelled_id id
 spelled_fields (Purged now place) = bytes_of 4 now ++ spelled_place place
 spelled_fields (Ticked now) = bytes_of 4 now

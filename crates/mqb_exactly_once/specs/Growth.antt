@@ -1,6 +1,7 @@
 use Rattle.std.specs.Prelude.{◌≡◌, ◌≤◌}
 use Rattle.mqb_base.specs.declared.ids.SequenceId.{SequenceId}
-use Rattle.mqb_exactly_once.specs.World.{Position, Commitment, Expiry, Decision, KnownFate, Transfer, OrderAck, FinalAck, StreamWorld}
+use Rattle.mqb_exactly_once.specs.World.{Position, Commitment, Expiry, Decision, KnownFate}
+use Rattle.mqb_exactly_once.specs.World.{Transfer, OrderAck, FinalAck, StreamWorld}
 use Rattle.mqb_exactly_once.specs.Words.{In, kept, last}
 
 -- What no step takes back, from a world to a later one.

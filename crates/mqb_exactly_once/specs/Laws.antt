@@ -3,13 +3,16 @@ use Rattle.mqb_base.specs.declared.ids.SequenceId.{SequenceId}
 use Rattle.mqb_base.specs.declared.message.Message.{Message}
 use Rattle.mqb_orders.specs.declared.judging.Verdict.TheVariants.{Duplicate, Stale}
 use Rattle.mqb_exactly_once.specs.Outcomes.{Put}
-use Rattle.mqb_exactly_once.specs.World.{Channel, Position, Commitment, Expiry, Decision, KnownFate, Transfer, OrderAck, FinalAck}
-use Rattle.mqb_exactly_once.specs.Words.{In, position_of, is_committed, is_decided, kept, count, before, previous, last, due, carried}
+use Rattle.mqb_exactly_once.specs.World.{Channel, Position, Commitment, Expiry, Decision, KnownFate}
+use Rattle.mqb_exactly_once.specs.World.{Transfer, OrderAck, FinalAck}
+use Rattle.mqb_exactly_once.specs.Words.{In, position_of, is_committed, is_decided, kept, count}
+use Rattle.mqb_exactly_once.specs.Words.{before, previous, last, due, carried}
 use Rattle.mqb_exactly_once.specs.Steps.{StreamStep, verdict}
 use Rattle.mqb_exactly_once.specs.Runs.{after, IsRun, AtEachPoint}
 use Rattle.mqb_exactly_once.specs.ExactlyOnce.{ExactlyOnce}
 use Rattle.mqb_exactly_once.specs.Growth.{Grows}
-use Rattle.mqb_exactly_once.specs.Truths.{MarksStand, IsTruthful, IsAcknowledgement, IsFate, IsTold, IsGreatestKept}
+use Rattle.mqb_exactly_once.specs.Truths.{MarksStand, IsTruthful, IsAcknowledgement, IsFate}
+use Rattle.mqb_exactly_once.specs.Truths.{IsTold, IsGreatestKept}
 
 -- A channel is exactly once.
 abbrev pub AlwaysExactlyOnce : Type 0
@@ -18,24 +21,29 @@ AlwaysExactlyOnce = AtEachPoint ExactlyOnce
 -- The numbers of a sequence are those from 1 to its count.
 abbrev pub CommittedAreCounted : Type 0
 CommittedAreCounted = AtEachPoint (λ w.
-    (p : Position) → IsTrue (is_committed w.committed p) ↔ ((0 < p.number) × (p.number ≤ count w.committed p.sequence)))
+    (p : Position) → IsTrue (is_committed w.committed p)
+    ↔ ((0 < p.number) × (p.number ≤ count w.committed p.sequence)))
 
 -- Each position is of one message.
 abbrev pub CommittedOnce : Type 0
-CommittedOnce = AtEachPoint (λ w. (b c : Commitment) → In b w.committed → In c w.committed → b.position ≡ c.position → b ≡ c)
+CommittedOnce = AtEachPoint (λ w. (b c : Commitment) → In b w.committed → In c w.committed
+    → b.position ≡ c.position → b ≡ c)
 
 -- Each is decided once.
 abbrev pub DecidedOnce : Type 0
-DecidedOnce = AtEachPoint (λ w. (d e : Decision) → In d w.decided → In e w.decided → d.position ≡ e.position → d ≡ e)
+DecidedOnce = AtEachPoint
+    (λ w. (d e : Decision) → In d w.decided → In e w.decided → d.position ≡ e.position → d ≡ e)
 
--- The marks of each sequence are 0 or kept. What is acknowledged was decided, and what was decided was offered.
+-- The marks of each sequence are 0 or kept. What is acknowledged was decided, and what was
+-- decided was offered.
 abbrev pub MarksAlwaysStand : Type 0
 MarksAlwaysStand = AtEachPoint (λ w. (s : SequenceId) → MarksStand w s)
 
 -- What was decided of a sequence is what is kept of it up to the last decided number.
 abbrev pub DecidedUpToLast : Type 0
 DecidedUpToLast = AtEachPoint (λ w.
-    (p : Position) → IsTrue (is_decided w.decided p) ↔ (IsTrue (kept w p) × (p.number ≤ last w.decided p.sequence)))
+    (p : Position) → IsTrue (is_decided w.decided p)
+    ↔ (IsTrue (kept w p) × (p.number ≤ last w.decided p.sequence)))
 
 -- Each packet that was ever sent is truthful.
 abbrev pub TransfersAreTruthful : Type 0
@@ -44,7 +52,8 @@ TransfersAreTruthful = AtEachPoint (λ w. (t : Transfer) → In t w.transfers �
 -- A packet that is dropped as a duplicate or as stale carries a message that was decided.
 abbrev pub DroppedWasDecided : Type 0
 DroppedWasDecided = AtEachPoint (λ w.
-    (t : Transfer) → In t w.transfers → (verdict w t ≡ Duplicate) ⊎ (verdict w t ≡ Stale) → IsTrue (is_decided w.decided (position_of t.head)))
+    (t : Transfer) → In t w.transfers → (verdict w t ≡ Duplicate) ⊎ (verdict w t ≡ Stale)
+    → IsTrue (is_decided w.decided (position_of t.head)))
 
 -- Each order acknowledgement that was ever sent speaks of what was decided.
 abbrev pub OrderAcksAreTrue : Type 0
@@ -85,10 +94,13 @@ put p m moment = record { position = p; message = carried m moment; outcome = Pu
 
 -- A message that is sent before it is due can arrive and be put.
 abbrev pub OneArrives : Type 0
-OneArrives = (channel : Channel) (s : SequenceId) (m : Message) (moment : ℕ) → IsFalse (due m moment)
-    → (xs : List StreamStep) × IsRun channel xs × ((after channel xs).decided ≡ put (record { sequence = s; number = 1 }) m moment ∷ [])
+OneArrives =
+    (channel : Channel) (s : SequenceId) (m : Message) (moment : ℕ) → IsFalse (due m moment)
+    → (xs : List StreamStep) × IsRun channel xs
+    × ((after channel xs).decided ≡ put (record { sequence = s; number = 1 }) m moment ∷ [])
 
--- Two messages of one sequence can arrive, and then, once they are acknowledged, one of the next sequence.
+-- Two messages of one sequence can arrive, and then, once they are acknowledged, one
+-- of the next sequence.
 abbrev pub SequencesRollOver : Type 0
 SequencesRollOver = (channel : Channel) (one two three : Message) (moment : ℕ)
     → IsFalse (due one moment) → IsFalse (due two moment) → IsFalse (due three moment)

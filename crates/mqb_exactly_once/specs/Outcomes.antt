@@ -1,6 +1,7 @@
 use Rattle.std.specs.Prelude.{◌≡◌, Bool, true, false, ⊤}
 
--- why a destination refuses a message, in the order of the classes 0x8002, 0x8000, 0x8009 and 0x8003
+-- why a destination refuses a message, in the order of the classes 0x8002,
+-- 0x8000, 0x8009 and 0x8003
 pub data Refusal : Type 0 where
   Reach_timeout : Refusal
   Bad_destination : Refusal

@@ -1,13 +1,17 @@
-use Rattle.std.specs.Prelude.{◌≡◌, ℕ, suc, ◌<◌, ◌≤◌, max, IsTrue, IsFalse, true, false, ◌==◌, List, ◌∷◌, Some, if◌then◌else◌, ⊤}
+use Rattle.std.specs.Prelude.{◌≡◌, ℕ, suc, ◌<◌, ◌≤◌, max}
+use Rattle.std.specs.Prelude.{IsTrue, IsFalse, true, false, ◌==◌, List, ◌∷◌, Some, if◌then◌else◌, ⊤}
 use Rattle.mqb_base.specs.declared.ids.SequenceId.{SequenceId}
 use Rattle.mqb_base.specs.declared.message.Message.{Message}
 use Rattle.mqb_base.specs.Sequences.{same_sequence, earlier}
 use Rattle.mqb_orders.specs.declared.judging.Verdict.{Verdict}
 use Rattle.mqb_orders.specs.declared.judging.Verdict.TheVariants.{Next}
 use Rattle.mqb_orders.specs.Judging.{verdict_of}
-use Rattle.mqb_exactly_once.specs.Outcomes.{Outcome, Put, Refused, Departure, Was_put, Was_refused, is_late}
-use Rattle.mqb_exactly_once.specs.World.{Position, Commitment, Decision, KnownFate, Transfer, OrderAck, FinalAck, StreamWorld}
-use Rattle.mqb_exactly_once.specs.Words.{In, position_of, kept, count, previous, newest, row, due, carried}
+use Rattle.mqb_exactly_once.specs.Outcomes.{Outcome, Put, Refused, Departure, Was_put}
+use Rattle.mqb_exactly_once.specs.Outcomes.{Was_refused, is_late}
+use Rattle.mqb_exactly_once.specs.World.{Position, Commitment, Decision, KnownFate, Transfer}
+use Rattle.mqb_exactly_once.specs.World.{OrderAck, FinalAck, StreamWorld}
+use Rattle.mqb_exactly_once.specs.Words.{In, position_of, kept, count, previous, newest, row}
+use Rattle.mqb_exactly_once.specs.Words.{due, carried}
 
 -- A step carries its choices.
 pub data StreamStep : Type 0 where
@@ -42,7 +46,8 @@ raised p marks s = if same_sequence p.sequence s then max (marks s) p.number els
 
 -- the next message of a sequence
 abbrev pub commitment : StreamWorld → SequenceId → Message → Commitment
-commitment w s m = record { position = record { sequence = s; number = suc (count w.committed s) }; message = m }
+commitment w s m =
+    record { position = record { sequence = s; number = suc (count w.committed s) }; message = m }
 
 -- the packet that carries a message at a moment
 abbrev pub transfer : StreamWorld → Commitment → ℕ → Transfer
@@ -58,7 +63,8 @@ transfer w c moment = record {
 }
 
 abbrev pub decision : Transfer → Outcome → Decision
-decision p outcome = record { position = position_of p.head; message = p.message; outcome = outcome }
+decision p outcome =
+    record { position = position_of p.head; message = p.message; outcome = outcome }
 
 -- a packet that is next is decided, and no other
 abbrev pub decided_after : Verdict → Decision → List Decision → List Decision
@@ -67,7 +73,8 @@ decided_after _ d decided = decided
 
 -- a refusal is the message's fate
 abbrev pub fates_after : Verdict → Position → Outcome → List KnownFate → List KnownFate
-fates_after Next p (Refused reason) fates = record { position = p; fate = Was_refused reason } ∷ fates
+fates_after Next p (Refused reason) fates =
+    record { position = p; fate = Was_refused reason } ∷ fates
 fates_after _ p _ fates = fates
 
 abbrev pub verdict : StreamWorld → Transfer → Verdict
@@ -76,24 +83,31 @@ verdict w p = verdict_of (row w.channel w.decided) p.head
 -- the world after a step
 abbrev pub happens : StreamWorld → StreamStep → StreamWorld
 happens w (Commit s m) = record w { committed = commitment w s m ∷ w.committed }
-happens w (Expire c moment) = record w { expired = record { position = c.position; moment = moment } ∷ w.expired }
+happens w (Expire c moment) =
+    record w { expired = record { position = c.position; moment = moment } ∷ w.expired }
 happens w (Offer p) = record w { offered = marked p w.offered }
 happens w (Send c moment) = record w { transfers = transfer w c moment ∷ w.transfers }
 happens w (Arrive p outcome) = record w {
   decided = decided_after (verdict w p) (decision p outcome) w.decided;
   fates = fates_after (verdict w p) (position_of p.head) outcome w.fates;
 }
-happens w (Fate p departure) = record w { fates = record { position = p; fate = Was_put departure } ∷ w.fates }
-happens w (Acknowledge p) = record w { order_acks = record { position = p; connection = w.connection } ∷ w.order_acks }
+happens w (Fate p departure) =
+    record w { fates = record { position = p; fate = Was_put departure } ∷ w.fates }
+happens w (Acknowledge p) =
+    record w { order_acks = record { position = p; connection = w.connection } ∷ w.order_acks }
 happens w (Acknowledged a) = record w { acknowledged = marked a.position w.acknowledged }
-happens w (Tell f) = record w { final_acks = record { position = f.position; fate = f.fate; connection = w.connection } ∷ w.final_acks }
+happens w (Tell f) = record w {
+  final_acks =
+      record { position = f.position; fate = f.fate; connection = w.connection } ∷ w.final_acks;
+}
 happens w (Told a) = record w { acknowledged = raised a.position w.acknowledged }
 happens w Connect = record w { connection = suc w.connection; connected = true }
 happens w End = record w { connected = false }
 
 -- of each earlier sequence, each kept number is acknowledged
 abbrev pub EarlierAcknowledged : StreamWorld → SequenceId → Type 0
-EarlierAcknowledged w s = (p : Position) → IsTrue (earlier p.sequence s) → IsTrue (kept w p) → p.number ≤ w.acknowledged p.sequence
+EarlierAcknowledged w s = (p : Position) → IsTrue (earlier p.sequence s) → IsTrue (kept w p)
+    → p.number ≤ w.acknowledged p.sequence
 
 -- a packet of the connection that stands
 abbrev pub IsPresent : StreamWorld → ℕ → Type 0
@@ -107,14 +121,16 @@ May w (Expire c moment) =
     × IsTrue (kept w c.position)
     × (w.offered c.position.sequence < c.position.number)
     × IsTrue (due c.message moment)
-May w (Offer p) = IsTrue (kept w p) × (w.offered p.sequence < p.number) × EarlierAcknowledged w p.sequence
+May w (Offer p) =
+    IsTrue (kept w p) × (w.offered p.sequence < p.number) × EarlierAcknowledged w p.sequence
 May w (Send c moment) =
     IsTrue w.connected
     × In c w.committed
     × IsTrue (kept w c.position)
     × (w.acknowledged c.position.sequence < c.position.number)
     × (c.position.number ≤ w.offered c.position.sequence)
-May w (Arrive p outcome) = IsPresent w p.connection × In p w.transfers × (is_late outcome ≡ (p.message.reach == 0))
+May w (Arrive p outcome) =
+    IsPresent w p.connection × In p w.transfers × (is_late outcome ≡ (p.message.reach == 0))
 May w (Fate p departure) = (d : Decision) × In d w.decided × (d.position ≡ p) × (d.outcome ≡ Put)
 May w (Acknowledge p) = IsTrue w.connected × (newest w.decided ≡ Some p)
 May w (Acknowledged a) =

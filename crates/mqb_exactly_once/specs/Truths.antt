@@ -1,7 +1,8 @@
 use Rattle.std.specs.Prelude.{◌≡◌, ℕ, ◌<◌, ◌≤◌, ◌⊎◌, IsTrue, List}
 use Rattle.mqb_base.specs.declared.ids.SequenceId.{SequenceId}
 use Rattle.mqb_exactly_once.specs.Outcomes.{Follows}
-use Rattle.mqb_exactly_once.specs.World.{Commitment, Expiry, Decision, KnownFate, Transfer, OrderAck, FinalAck, StreamWorld}
+use Rattle.mqb_exactly_once.specs.World.{Commitment, Expiry, Decision, KnownFate, Transfer}
+use Rattle.mqb_exactly_once.specs.World.{OrderAck, FinalAck, StreamWorld}
 use Rattle.mqb_exactly_once.specs.Words.{In, position_of, is_kept, kept, previous, last, carried}
 
 -- 0, or a kept number of a sequence
@@ -21,9 +22,11 @@ pub record IsTruthful (w : StreamWorld) (t : Transfer) : Type 0 where
   pub kept : IsTrue (kept w (position_of t.head))
   pub offered : t.head.number ≤ w.offered t.head.sequence
   pub previous : t.head.previous ≡ previous w t.head.sequence t.head.number
-  pub message : (c : Commitment) × In c w.committed × (c.position ≡ position_of t.head) × (t.message ≡ carried c.message t.sent_at)
+  pub message : (c : Commitment) × In c w.committed × (c.position ≡ position_of t.head)
+      × (t.message ≡ carried c.message t.sent_at)
 
--- what the destination acknowledged is kept, and no greater than what it decided last of that sequence
+-- what the destination acknowledged is kept, and no greater than what it decided
+-- last of that sequence
 pub record IsAcknowledgement (w : StreamWorld) (a : OrderAck) : Type 0 where
   pub kept : IsTrue (kept w a.position)
   pub decided : a.position.number ≤ last w.decided a.position.sequence
@@ -37,6 +40,9 @@ abbrev pub IsTold : StreamWorld → FinalAck → Type 0
 IsTold w a = In (record { position = a.position; fate = a.fate }) w.fates
 
 -- m is the greatest kept number of a sequence below n, or 0 where there is none
-pub record IsGreatestKept (committed : List Commitment) (expired : List Expiry) (s : SequenceId) (n m : ℕ) : Type 0 where
-  pub member : (m ≡ 0) ⊎ ((m < n) × IsTrue (is_kept committed expired (record { sequence = s; number = m })))
-  pub greatest : (k : ℕ) → k < n → IsTrue (is_kept committed expired (record { sequence = s; number = k })) → k ≤ m
+pub record IsGreatestKept (committed : List Commitment) (expired : List Expiry) (s : SequenceId)
+    (n m : ℕ) : Type 0 where
+  pub member : (m ≡ 0)
+      ⊎ ((m < n) × IsTrue (is_kept committed expired (record { sequence = s; number = m })))
+  pub greatest : (k : ℕ) → k < n
+      → IsTrue (is_kept committed expired (record { sequence = s; number = k })) → k ≤ m

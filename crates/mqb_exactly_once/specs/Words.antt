@@ -1,4 +1,5 @@
-use Rattle.std.specs.Prelude.{◌≡◌, ℕ, zero, suc, ◌⊎◌, Bool, not, ◌==◌, ◌&&◌, ◌||◌, nat_lt, List, [], ◌∷◌, Option, Some, None, option_map, if◌then◌else◌}
+use Rattle.std.specs.Prelude.{◌≡◌, ℕ, zero, suc, ◌⊎◌, Bool, not, ◌==◌, ◌&&◌, ◌||◌, nat_lt, List, []}
+use Rattle.std.specs.Prelude.{◌∷◌, Option, Some, None, option_map, if◌then◌else◌}
 use Rattle.std.specs.List.{list_any}
 use Rattle.mqb_base.specs.declared.heads.TxHead.{TxHead}
 use Rattle.mqb_base.specs.declared.ids.SequenceId.{SequenceId}
@@ -6,7 +7,8 @@ use Rattle.mqb_base.specs.declared.message.Message.{Message}
 use Rattle.mqb_base.specs.Sequences.{same_sequence, earlier}
 use Rattle.mqb_base.specs.Times.{remaining, is_due}
 use Rattle.mqb_orders.specs.declared.rows.InRow.{InRow}
-use Rattle.mqb_exactly_once.specs.World.{Channel, Position, Commitment, Expiry, Decision, StreamWorld}
+use Rattle.mqb_exactly_once.specs.World.{Channel, Position, Commitment, Expiry}
+use Rattle.mqb_exactly_once.specs.World.{Decision, StreamWorld}
 
 -- x is a member of a list
 abbrev pub In : {A : Type 0} → A → List A → Type 0
@@ -18,7 +20,8 @@ same_position p q = same_sequence p.sequence q.sequence && p.number == q.number
 
 -- p stands before q: in an earlier sequence, or in the same one under a smaller number
 abbrev pub precedes : Position → Position → Bool
-precedes p q = earlier p.sequence q.sequence || (same_sequence p.sequence q.sequence && nat_lt p.number q.number)
+precedes p q = earlier p.sequence q.sequence
+    || (same_sequence p.sequence q.sequence && nat_lt p.number q.number)
 
 -- where a packet's message stands
 abbrev pub position_of : TxHead → Position
@@ -49,7 +52,8 @@ count (c ∷ cs) s = if same_sequence c.position.sequence s then suc (count cs s
 abbrev pub before : List Commitment → List Expiry → SequenceId → ℕ → ℕ
 before committed expired s zero = 0
 before committed expired s (suc n) =
-    if is_kept committed expired (record { sequence = s; number = n }) then n else before committed expired s n
+    if is_kept committed expired (record { sequence = s; number = n }) then n
+    else before committed expired s n
 
 abbrev pub previous : StreamWorld → SequenceId → ℕ → ℕ
 previous w s n = before w.committed w.expired s n
@@ -67,7 +71,12 @@ newest (d ∷ ds) = Some d.position
 -- the destination's row, which is there once something was decided
 abbrev pub row : Channel → List Decision → Option InRow
 row channel decided = option_map
-    (λ p. record { source = channel.source; destination = channel.destination; sequence = p.sequence; last = p.number })
+    (λ p. record {
+      source = channel.source;
+      destination = channel.destination;
+      sequence = p.sequence;
+      last = p.number;
+    })
     (newest decided)
 
 -- a message's time to reach its queue is over

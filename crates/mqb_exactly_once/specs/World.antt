@@ -26,7 +26,8 @@ pub record Expiry : Type 0 where
   pub position : Position
   pub moment : ℕ
 
--- what the destination decided of a message that it heard. The message's time to reach its queue is what was left of it
+-- what the destination decided of a message that it heard. The message's time to reach its queue
+-- is what was left of it
 pub record Decision : Type 0 where
   pub position : Position
   pub message : Message
@@ -37,7 +38,8 @@ pub record KnownFate : Type 0 where
   pub position : Position
   pub fate : MessageFate
 
--- A transactional packet. Of its message's time to reach its queue it has what was left when it was sent. It does not show that moment.
+-- A transactional packet. Of its message's time to reach its queue it has what was left when it was
+-- sent. It does not show that moment.
 pub record Transfer : Type 0 where
   pub head : TxHead
   pub message : Message
@@ -55,7 +57,8 @@ pub record FinalAck : Type 0 where
   pub fate : MessageFate
   pub connection : ℕ
 
--- All sequences of one channel. Each list has its newest member first, and keeps all that ever joined it: whatever was sent may come again.
+-- All sequences of one channel. Each list has its newest member first, and keeps all that ever
+-- joined it: whatever was sent may come again.
 pub record StreamWorld : Type 0 where
   pub channel : Channel
   -- at the source: the messages, and the marks of each sequence

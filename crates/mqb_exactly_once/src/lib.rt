@@ -1,12 +1,19 @@
-//! The law of streams: whatever is lost, repeated and reordered, and whenever connections end and managers crash, a destination decides each message
-//! of a source exactly once, in the order of the commits, and skips none but those that expired.
+//! The law of streams: whatever is lost, repeated and reordered, and whenever connections end and
+//! managers crash, a destination decides each message of a source exactly once, in the order of the
+//! commits, and skips none but those that expired.
 //!
-//! `specs/World.antt` has what a source and a destination know of one channel, over all its sequences, and `specs/Steps.antt` what may happen to
-//! it. `specs/ExactlyOnce.antt` says what holds at each point of each run. Each function here stands for a law: its contract is the law, and its
-//! body is empty.
+//! `specs/World.antt` has what a source and a destination know of one channel, over all its
+//! sequences, and `specs/Steps.antt` what may happen to it. `specs/ExactlyOnce.antt` says what
+//! holds at each point of each run. Each function here stands for a law: its contract is the law,
+//! and its body is empty.
 #![tactic(auto)]
 
-ghost use Rattle.mqb_exactly_once.specs.Laws.{AlwaysExactlyOnce, CommittedAreCounted, CommittedOnce, DecidedOnce, MarksAlwaysStand, DecidedUpToLast, TransfersAreTruthful, DroppedWasDecided, OrderAcksAreTrue, FatesAreTrue, FinalAcksAreTrue, StepsGrow, RunsGrow, BeforeStays, BeforeIsGreatest, OneArrives, SequencesRollOver};
+ghost use Rattle.mqb_exactly_once.specs.Laws.{AlwaysExactlyOnce, CommittedAreCounted};
+ghost use Rattle.mqb_exactly_once.specs.Laws.{CommittedOnce, DecidedOnce, MarksAlwaysStand};
+ghost use Rattle.mqb_exactly_once.specs.Laws.{DecidedUpToLast, TransfersAreTruthful};
+ghost use Rattle.mqb_exactly_once.specs.Laws.{DroppedWasDecided, OrderAcksAreTrue, FatesAreTrue};
+ghost use Rattle.mqb_exactly_once.specs.Laws.{FinalAcksAreTrue, StepsGrow, RunsGrow, BeforeStays};
+ghost use Rattle.mqb_exactly_once.specs.Laws.{BeforeIsGreatest, OneArrives, SequencesRollOver};
 
 /// The law itself.
 pub fn exactly_once()
@@ -28,7 +35,8 @@ pub fn decided_once()
     ensures { DecidedOnce }
 {}
 
-/// The acknowledged mark is at most the last decided number, and that at most the offered mark. Each is 0 or a kept number.
+/// The acknowledged mark is at most the last decided number, and that at most the offered mark.
+/// Each is 0 or a kept number.
 pub fn marks_stand()
     ensures { MarksAlwaysStand }
 {}

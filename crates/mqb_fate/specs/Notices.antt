@@ -13,7 +13,8 @@ use Rattle.mqb_fate.specs.declared.notices.TheConstants.{NOTICE_PRIORITY}
 use Rattle.mqb_fate.specs.Asking.{is_ordinary, asks_for, final_is_due}
 use Rattle.mqb_fate.specs.Orders.{order_layer}
 
--- What a notice about a message says: which message it was and which class it met. It is sent now, is not limited in time and asks for nothing.
+-- What a notice about a message says: which message it was and which class it met. It is sent now,
+-- is not limited in time and asks for nothing.
 abbrev pub notice_about : Message → Class → Delivery → QueueName → MessageId → ℕ → Message
 notice_about m class delivery destination id now = record {
   id = id;
@@ -44,11 +45,13 @@ admin_delivery _ = Recoverable
 -- the administration message that follows where a message meets a class
 abbrev pub admin_notice : Message → Class → Guid → ℕ → ℕ → Option Message
 admin_notice m class own number now = if is_ordinary m && asks_for m class
-    then option_map (λ admin. notice_about m class (admin_delivery m.delivery) admin (record { qm = own; number = number }) now) m.admin
+    then option_map (λ admin. notice_about m class (admin_delivery m.delivery) admin
+    (record { qm = own; number = number }) now) m.admin
     else None
 
 -- the final acknowledgement to the source that follows
 abbrev pub final_notice : Message → Class → Guid → Identity → ℕ → ℕ → Option Message
 final_notice m class own peer number now = if final_is_due m class own
-    then Some (notice_about m class Recoverable (order_layer peer.host) (record { qm = own; number = number }) now)
+    then Some (notice_about m class Recoverable (order_layer peer.host)
+    (record { qm = own; number = number }) now)
     else None

@@ -1,5 +1,6 @@
 -- The order layer of a manager: its queue, and the messages that are for it alone.
-use Rattle.std.specs.Prelude.{ℕ, Bool, false, ◌==◌, ◌&&◌, ◌||◌, nat_le, List, [], ◌++◌, length, drop, replicate, codes, Option, Some, None, if◌then◌else◌}
+use Rattle.std.specs.Prelude.{ℕ, Bool, false, ◌==◌, ◌&&◌, ◌||◌, nat_le, List, [], ◌++◌, length}
+use Rattle.std.specs.Prelude.{drop, replicate, codes, Option, Some, None, if◌then◌else◌}
 use Rattle.byteorder.specs.Endian.{little_bytes, little_number}
 use Rattle.mqb_base.specs.declared.class.Class.{Class}
 use Rattle.mqb_base.specs.declared.class.TheConstants.Class.{
@@ -40,11 +41,15 @@ is_between low high class = nat_le low.0 class.0 && nat_le class.0 high.0
 
 -- the classes of a final acknowledgement
 abbrev pub is_final_class : Class → Bool
-is_final_class class = class.0 == RECEIVED.0 || is_between BAD_DESTINATION MESSAGE_NOT_TRANSACTIONAL class || is_between QUEUE_DELETED RECEIVE_TIMEOUT class
+is_final_class class =
+    class.0 == RECEIVED.0 || is_between BAD_DESTINATION MESSAGE_NOT_TRANSACTIONAL class
+    || is_between QUEUE_DELETED RECEIVE_TIMEOUT class
 
--- the body of an order acknowledgement: the sequence, the last decided number, and four bytes that mean nothing
+-- the body of an order acknowledgement: the sequence, the last decided number, and four
+-- bytes that mean nothing
 abbrev pub ack_body : OrderAck → List ℕ
-ack_body a = little_bytes 4 a.sequence.ordinal ++ little_bytes 4 a.sequence.stamp ++ little_bytes 4 a.number ++ little_bytes 4 0
+ack_body a = little_bytes 4 a.sequence.ordinal ++ little_bytes 4 a.sequence.stamp
+    ++ little_bytes 4 a.number ++ little_bytes 4 0
 
 -- what a body of sixteen bytes acknowledges
 abbrev pub acked_by : List ℕ → Option OrderAck

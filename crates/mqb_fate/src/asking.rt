@@ -1,5 +1,6 @@
 ghost use Rattle.std.specs.Prelude.{◌≡◌};
-ghost use Rattle.mqb_fate.specs.Asking.{is_ordinary, is_transactional, matching_bit, asks_for, final_is_due, goes_dead};
+ghost use Rattle.mqb_fate.specs.Asking.{is_ordinary, is_transactional, matching_bit, asks_for};
+ghost use Rattle.mqb_fate.specs.Asking.{final_is_due, goes_dead};
 
 use mqb_base::{
     Class, Delivery, Guid, Message, NEGATIVE_ARRIVAL, NEGATIVE_RECEIVE, POSITIVE_ARRIVAL,

@@ -1,7 +1,9 @@
-//! What follows where a message meets a class: an administration message, a final acknowledgement to its source, a dead letter. Each of the
-//! three is a function of the message, the class and the own manager. Putting and sending is left to the caller.
+//! What follows where a message meets a class: an administration message, a final acknowledgement
+//! to its source, a dead letter. Each of the three is a function of the message, the class and the
+//! own manager. Putting and sending is left to the caller.
 //!
-//! Beside them stand the order layer's queue and what an order acknowledgement is: the messages by which the order layers of two managers talk.
+//! Beside them stand the order layer's queue and what an order acknowledgement is: the messages by
+//! which the order layers of two managers talk.
 #![tactic(auto)]
 
 mod asking;

@@ -55,7 +55,8 @@ fn admin_delivery(cause: Delivery) -> Delivery
     }
 }
 
-/// The administration message that a message asks for where it meets a class, as the own manager's message of this number.
+/// The administration message that a message asks for where it meets a class, as the own manager's
+/// message of this number.
 pub fn admin_for(
     alloc: Global,
     message: &Message,
@@ -80,8 +81,8 @@ pub fn admin_for(
     notice_about(alloc, message, class, delivery, admin.clone()?, id, now).map(Some)
 }
 
-/// The final acknowledgement that is due to the source of a message where it meets a class, as the own manager's message of this number. The
-/// peer is that source.
+/// The final acknowledgement that is due to the source of a message where it meets a class, as the
+/// own manager's message of this number. The peer is that source.
 pub fn final_for(
     alloc: Global,
     message: &Message,

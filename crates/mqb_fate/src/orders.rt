@@ -1,5 +1,6 @@
 ghost use Rattle.std.specs.Prelude.{◌≡◌, length, IfOk};
-ghost use Rattle.mqb_fate.specs.Orders.{is_order_name, names_order_layer, order_layer, is_between, is_final_class, ack_body, acked_by, order_acknowledgement};
+ghost use Rattle.mqb_fate.specs.Orders.{is_order_name, names_order_layer, order_layer, is_between};
+ghost use Rattle.mqb_fate.specs.Orders.{is_final_class, ack_body, acked_by, order_acknowledgement};
 
 use crate::notices::NOTICE_PRIORITY;
 use byteorder::{ByteOrder, LittleEndian};
@@ -108,7 +109,8 @@ impl OrderAck {
     }
 }
 
-/// The order acknowledgement for the source at a host, as the own manager's message of this identifier.
+/// The order acknowledgement for the source at a host, as the own manager's
+/// message of this identifier.
 pub fn order_acknowledgement(
     alloc: Global,
     ack: OrderAck,

@@ -1,4 +1,5 @@
-use Rattle.std.specs.Prelude.{◌≡◌, ℕ, ◌+◌, ◌-◌, List, length, take, drop, Result, Ok, Err, nat_lt, if◌then◌else◌}
+use Rattle.std.specs.Prelude.{◌≡◌, ℕ, ◌+◌, ◌-◌, List, length, take, drop, Result, Ok, Err}
+use Rattle.std.specs.Prelude.{nat_lt, if◌then◌else◌}
 use Rattle.byteorder.specs.Endian.{little_number}
 use Rattle.mqb_fields.specs.declared.faults.Short.{Short}
 use Rattle.mqb_fields.specs.Guids.{swapped}
@@ -50,14 +51,17 @@ guid_at r = do
   Ok (swapped part.0, part.1)
 
 -- What a call that began at old and ended at new answered, seen by view, is what reading gives.
-abbrev pub ReadsAs : {X Y E : Type 0} → (X → Y) → (Reading → Result (Y × Reading) E) → Reading → Reading → Result X E → Type 0
+abbrev pub ReadsAs : {X Y E : Type 0} → (X → Y) → (Reading → Result (Y × Reading) E) → Reading
+    → Reading → Result X E → Type 0
 ReadsAs view read old new (Ok x) = read old ≡ Ok (view x, new)
 ReadsAs view read old new (Err e) = read old ≡ Err e
 
-abbrev pub Reads : {X E : Type 0} → (Reading → Result (X × Reading) E) → Reading → Reading → Result X E → Type 0
+abbrev pub Reads : {X E : Type 0} → (Reading → Result (X × Reading) E) → Reading → Reading
+    → Result X E → Type 0
 Reads = ReadsAs (λ x. x)
 
 -- What a call that reads nothing answered, and where it ended, is where reading moves to.
-abbrev pub Moves : {X E : Type 0} → (Reading → Result Reading E) → Reading → Reading → Result X E → Type 0
+abbrev pub Moves : {X E : Type 0} → (Reading → Result Reading E) → Reading → Reading → Result X E
+    → Type 0
 Moves move old new (Ok _) = move old ≡ Ok new
 Moves move old new (Err e) = move old ≡ Err e

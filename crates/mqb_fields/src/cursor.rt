@@ -1,5 +1,6 @@
 ghost use Rattle.std.specs.Prelude.{◌≡◌, OnErr};
-ghost use Rattle.mqb_fields.specs.Reading.{Moves, Reads, ReadsAs, after, guid_at, number_at, part_at, rest_of};
+ghost use Rattle.mqb_fields.specs.Reading.{Moves, Reads, ReadsAs, after, guid_at, number_at};
+ghost use Rattle.mqb_fields.specs.Reading.{part_at, rest_of};
 
 use crate::faults::Short;
 use crate::guids::swapped;

@@ -7,14 +7,16 @@ ghost use Rattle.mqb_fields.specs.Guids.{swapped};
 pub fn number_is_read()
     ensures { (to : List ℕ) (at width number : ℕ) → at + width ≤ length to → number < 256 ^ width →
         let put = put_at to at (bytes_of width number) in
-        number_at width (record { bytes = put; at = at }) ≡ Ok (number, record { bytes = put; at = at + width }) }
+        number_at width (record { bytes = put; at = at })
+        ≡ Ok (number, record { bytes = put; at = at + width }) }
 {}
 
 /// A GUID that was put is read again.
 pub fn guid_is_read()
     ensures { (to guid : List ℕ) (at : ℕ) → at + 16 ≤ length to → length guid ≡ 16 →
         let put = put_at to at (swapped guid) in
-        guid_at (record { bytes = put; at = at }) ≡ Ok (guid, record { bytes = put; at = at + 16 }) }
+        guid_at (record { bytes = put; at = at })
+        ≡ Ok (guid, record { bytes = put; at = at + 16 }) }
 {}
 
 /// What is put behind what was put is put with it as one.

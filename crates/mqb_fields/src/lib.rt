@@ -1,7 +1,8 @@
 //! Numbers, GUIDs and slices at places of a list of bytes. Numbers are little-endian.
 //!
-//! A `Cursor` reads fields one after another. A contract sees it as a `Reading`, the whole list and the place, and says of each call that it gives
-//! what a function of `Reading` gives. So a reader of many fields has one clause: what it gives is what the chain of the functions of its fields
+//! A `Cursor` reads fields one after another. A contract sees it as a `Reading`, the whole list and
+//! the place, and says of each call that it gives what a function of `Reading` gives. So a reader
+//! of many fields has one clause: what it gives is what the chain of the functions of its fields
 //! gives. The `put` calls write a field at a place.
 #![tactic(auto)]
 

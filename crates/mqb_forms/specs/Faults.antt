@@ -1,4 +1,5 @@
-use Rattle.std.specs.Prelude.{◌≡◌, Bool, List, [], ◌∷◌, ◌++◌, Result, Ok, Err, IfOk, IfErr, OnOk, if◌then◌else◌}
+use Rattle.std.specs.Prelude.{◌≡◌, Bool, List, [], ◌∷◌, ◌++◌, Result, Ok, Err, IfOk, IfErr}
+use Rattle.std.specs.Prelude.{OnOk, if◌then◌else◌}
 use Rattle.mqb_fields.specs.Reading.{◌>>=◌}
 use Rattle.mqb_forms.specs.declared.faults.LineKind.{LineKind}
 use Rattle.mqb_forms.specs.declared.faults.LineKind.TheVariants.{Value}
@@ -22,5 +23,7 @@ abbrev pub behind : {S T : Type 0} → (S → T) → List T → Result S LineKin
 behind item before read = read >>= λ x. Ok (before ++ item x ∷ [])
 
 -- A call adds the item of what the definition reads, or wants memory.
-abbrev pub Adds : {S T : Type 0} → (S → T) → Result S LineKind → (before after : List T) → Result (Unit {0}) LineFault → Type 0
-Adds item read before after r = OnOk r (behind item before read ≡ Ok after) × IfErr r (IsFaultOf read)
+abbrev pub Adds : {S T : Type 0} → (S → T) → Result S LineKind → (before after : List T)
+    → Result (Unit {0}) LineFault → Type 0
+Adds item read before after r =
+    OnOk r (behind item before read ≡ Ok after) × IfErr r (IsFaultOf read)

@@ -15,14 +15,21 @@ public_of (word ∷ []) = do
   Ok (Some guid)
 public_of _ = Err Value
 
-unfoldable pub plan_of : List ℕ → List ℕ → List ℕ → List ℕ → List (List ℕ) → Result QueuePlan LineKind
+unfoldable pub plan_of : List ℕ → List ℕ → List ℕ → List ℕ → List (List ℕ)
+    → Result QueuePlan LineKind
 plan_of name kind quota journal guid = do
   called ← name_of name
   public ← public_of guid
   transactional ← choice_of (codes "tx") (codes "plain") kind
   most ← quota_of quota
   keeps ← choice_of (codes "journal") (codes "none") journal
-  Ok (record { name = called; public = public; transactional = transactional; quota = most; journal = keeps })
+  Ok (record {
+    name = called;
+    public = public;
+    transactional = transactional;
+    quota = most;
+    journal = keeps;
+  })
 
 -- whether a message is recoverable, and its priority
 unfoldable pub how_of : List ℕ → List ℕ → Result (Bool × ℕ) LineKind

@@ -1,5 +1,7 @@
 -- The steps of a transaction: each is one word, its fields between commas.
-use Rattle.std.specs.Prelude.{◌≡◌, ℕ, Bool, true, false, ◌/◌, ◌%◌, ◌^◌, ◌==◌, ◌&&◌, not, nat_le, List, [], ◌∷◌, drop, codes, Option, Some, None, find, position, ok_or, Result, Ok, Err, replicate, if◌then◌else◌}
+use Rattle.std.specs.Prelude.{◌≡◌, ℕ, Bool, true, false, ◌/◌, ◌%◌, ◌^◌, ◌==◌, ◌&&◌, not, nat_le}
+use Rattle.std.specs.Prelude.{List, [], ◌∷◌, drop, codes, Option, Some, None, find, position, ok_or}
+use Rattle.std.specs.Prelude.{Result, Ok, Err, replicate, if◌then◌else◌}
 use Rattle.std.specs.List.{list_all, starts_with, filter_map, range_with_len, slice_get}
 use Rattle.std.specs.Option.{option_map}
 use Rattle.mqb_base.specs.declared.ids.MessageId.{MessageId}
@@ -52,27 +54,32 @@ seconds_of word = if is_dash word then Ok MOST else number_in 0 MOST_SECONDS wor
 
 -- Flags.
 
--- the letters of flags, in the order in which they stand: the bits of a journal, and then those of an acknowledgement
+-- the letters of flags, in the order in which they stand: the bits of a journal, and then those
+-- of an acknowledgement
 abbrev pub flag_letters : List ℕ
 flag_letters = codes "djprnm"
 
 -- the bit of a letter
 abbrev pub flag_bit : ℕ → Result ℕ LineKind
-flag_bit letter = ok_or (option_map (λ place. 2 ^ place) (position (λ l. l == letter) flag_letters)) Value
+flag_bit letter =
+    ok_or (option_map (λ place. 2 ^ place) (position (λ l. l == letter) flag_letters)) Value
 
 abbrev pub has_flag : ℕ → ℕ → Bool
 has_flag flags place = flags / 2 ^ place % 2 == 1
 
 -- the letters of flags, each at most once and in their order
 abbrev pub letters_of : ℕ → List ℕ
-letters_of flags = filter_map (λ place. if has_flag flags place then slice_get flag_letters place else None) (range_with_len 0 6)
+letters_of flags =
+    filter_map (λ place. if has_flag flags place then slice_get flag_letters place else None)
+    (range_with_len 0 6)
 
 abbrev pub flags_text : ℕ → List ℕ
 flags_text flags = if flags == 0 then codes "-" else letters_of flags
 
 -- the flags that a word spells
 unfoldable pub flags_of : List ℕ → Result ℕ LineKind
-flags_of word = ok_or (find (λ flags. same_bytes (flags_text flags) word) (range_with_len 0 64)) Value
+flags_of word =
+    ok_or (find (λ flags. same_bytes (flags_text flags) word) (range_with_len 0 64)) Value
 
 abbrev pub journal_bits : ℕ → ℕ
 journal_bits flags = flags % 4
@@ -99,9 +106,11 @@ counted_body number = do
   count ← number_in 0 MOST_COUNTED number
   Ok (replicate count 0x78)
 
--- the body that a text stands for: behind a star the number of its bytes, and without a star the text itself, where it is printable
+-- the body that a text stands for: behind a star the number of its bytes, and without a star the
+-- text itself, where it is printable
 unfoldable pub body_of : List ℕ → Result (List ℕ) LineKind
-body_of text = if is_starred text then counted_body (drop 1 text) else only_if (list_all is_body_byte text) (Ok text)
+body_of text = if is_starred text then counted_body (drop 1 text)
+    else only_if (list_all is_body_byte text) (Ok text)
 
 -- Sends.
 
@@ -123,7 +132,8 @@ terms_from reach life flags = do
   Ok (record { reach = reaches; life = lives; flags = bits })
 
 abbrev pub AreQueues : Names → Type 0
-AreQueues names = (names_queue names.destination ≡ true) × (absent_or_queue names.admin ≡ true) × (absent_or_queue names.response ≡ true)
+AreQueues names = (names_queue names.destination ≡ true) × (absent_or_queue names.admin ≡ true)
+    × (absent_or_queue names.response ≡ true)
 
 -- a message without label and extension, and with 0 in what no field tells
 abbrev pub parts_of : ℕ → Names → Terms → List ℕ → Parts
@@ -144,7 +154,8 @@ parts_of priority names terms body = record {
   body = body;
 }
 
-unfoldable pub message_of : ℕ → List ℕ → List ℕ → List ℕ → List ℕ → List ℕ → List ℕ → List ℕ → Result Parts LineKind
+unfoldable pub message_of : ℕ → List ℕ → List ℕ → List ℕ → List ℕ → List ℕ → List ℕ → List ℕ
+    → Result Parts LineKind
 message_of priority destination reach life flags admin response text = do
   names ← names_from destination admin response
   terms ← terms_from reach life flags
@@ -159,7 +170,8 @@ parts_from priority _ = Err Value
 
 unfoldable pub send_from : ℕ → List (List ℕ) → Result Parts LineKind
 send_from priority [] = Err Value
-send_from priority (word ∷ fields) = only_if (same_bytes word (codes "send")) (parts_from priority fields)
+send_from priority (word ∷ fields) =
+    only_if (same_bytes word (codes "send")) (parts_from priority fields)
 
 -- the message of this priority that a word describes
 unfoldable pub send_of : ℕ → List ℕ → Result Parts LineKind

@@ -1,10 +1,12 @@
 -- What single words stand for.
-use Rattle.std.specs.Prelude.{ℕ, Bool, true, false, ◌==◌, ◌-◌, List, take, length, codes, is_none, Option, Some, None, Result, Ok, Err, if◌then◌else◌}
+use Rattle.std.specs.Prelude.{ℕ, Bool, true, false, ◌==◌, ◌-◌, List, take, length, codes, is_none}
+use Rattle.std.specs.Prelude.{Option, Some, None, Result, Ok, Err, if◌then◌else◌}
 use Rattle.std.specs.List.{ends_with}
 use Rattle.uuid.specs.Text.{parsed_hyphenated}
 use Rattle.mqb_base.specs.declared.ids.Guid.{Guid}
 use Rattle.mqb_base.specs.declared.queues.Place.{Place}
-use Rattle.mqb_base.specs.declared.queues.Place.TheVariants.{Queue, JournalOf, Dead, DeadXact, Journal}
+use Rattle.mqb_base.specs.declared.queues.Place.TheVariants.{Queue, JournalOf, Dead}
+use Rattle.mqb_base.specs.declared.queues.Place.TheVariants.{DeadXact, Journal}
 use Rattle.mqb_base.specs.Names.{name_fault}
 use Rattle.mqb_base.specs.Same.{same_bytes}
 use Rattle.mqb_fields.specs.Reading.{◌>>=◌}

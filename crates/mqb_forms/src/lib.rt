@@ -1,6 +1,7 @@
-//! What single words stand for: numbers, choices, names, places, queues and the steps of transactions.
-//! The lines of a script and the words of a command line are made of these. Of the definitions, `Words` has numbers, `Values` names and places,
-//! `Plans` queues and ways to send, and `Sends` the steps of a transaction.
+//! What single words stand for: numbers, choices, names, places, queues and the steps of
+//! transactions. The lines of a script and the words of a command line are made of these. Of the
+//! definitions, `Words` has numbers, `Values` names and places, `Plans` queues and ways to send,
+//! and `Sends` the steps of a transaction.
 #![tactic(auto)]
 
 mod faults;

@@ -2,7 +2,10 @@ ghost use Rattle.std.specs.Prelude.{◌≡◌, ◌<◌, ◌≤◌, true, Ok, map
 ghost use Rattle.std.specs.List.{list_all};
 ghost use Rattle.mqb_base.specs.QueueNames.{names_queue, absent_or_queue};
 ghost use Rattle.mqb_forms.specs.Faults.{Adds, Reads};
-ghost use Rattle.mqb_forms.specs.Sends.{destination_of, optional_of, seconds_of, is_body_byte, counted_body, body_of, AreQueues, names_from, terms_from, parts_of, message_of, parts_from, send_from, send_of, take_from, op_from, op_of, ops_of};
+ghost use Rattle.mqb_forms.specs.Sends.{destination_of, optional_of, seconds_of, is_body_byte};
+ghost use Rattle.mqb_forms.specs.Sends.{counted_body, body_of, AreQueues, names_from, terms_from};
+ghost use Rattle.mqb_forms.specs.Sends.{parts_of, message_of, parts_from, send_from, send_of};
+ghost use Rattle.mqb_forms.specs.Sends.{take_from, op_from, op_of, ops_of};
 
 use crate::faults::{LineFault, LineKind};
 use crate::flags::flags_of;
@@ -81,7 +84,8 @@ fn body_of(alloc: Global, text: &[u8]) -> Result<Bytes, LineFault>
     Ok(Bytes::from_slice(alloc, text)?)
 }
 
-/// The queues that a send names: where its message goes, where it is told of, and where it is answered.
+/// The queues that a send names: where its message goes, where it is told of, and
+/// where it is answered.
 #[derive(Drop)]
 pub struct Names {
     pub destination: QueueName,
@@ -89,7 +93,8 @@ pub struct Names {
     pub response: Option<QueueName>,
 }
 
-/// The times of a send in seconds, and its flags: the bits of a journal, and four times those of an acknowledgement.
+/// The times of a send in seconds, and its flags: the bits of a journal, and four times those
+/// of an acknowledgement.
 #[derive(Clone, Copy)]
 pub struct Terms {
     pub reach: u32,
@@ -180,7 +185,8 @@ struct Fields<'w> {
 fn message_of(alloc: Global, priority: u8, fields: &Fields<'_>) -> Result<Draft, LineFault>
     requires { priority ≤ 7 }
     ensures { let f = fields.now in
-        Reads (message_of priority f.destination.now f.reach.now f.life.now f.flags.now f.admin.now f.response.now f.text.now) result }
+        Reads (message_of priority f.destination.now f.reach.now f.life.now f.flags.now f.admin.now
+        f.response.now f.text.now) result }
 {
     let names = names_from(alloc, fields.destination, fields.admin, fields.response)?;
     let terms = terms_from(fields.reach, fields.life, fields.flags)?;

@@ -1,7 +1,9 @@
 ghost use Rattle.std.specs.Prelude.{◌≡◌, ◌==◌, ◌≤◌, IfOk};
 ghost use Rattle.std.specs.List.{ends_with};
 ghost use Rattle.mqb_forms.specs.Faults.{Reads};
-ghost use Rattle.mqb_forms.specs.Values.{moment_of, packet_of, quota_of, priority_of, window_of, call_of, roll_of, choice_of, mode_of, pick_of, name_of, guid_of, place_of};
+ghost use Rattle.mqb_forms.specs.Values.{moment_of, packet_of, quota_of, priority_of, window_of};
+ghost use Rattle.mqb_forms.specs.Values.{call_of, roll_of, choice_of, mode_of, pick_of, name_of};
+ghost use Rattle.mqb_forms.specs.Values.{guid_of, place_of};
 
 use crate::faults::{LineFault, LineKind};
 use crate::words::{is_word, number_in};

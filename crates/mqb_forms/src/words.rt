@@ -1,4 +1,5 @@
-ghost use Rattle.std.specs.Prelude.{◌≡◌, ◌==◌, ◌<◌, ◌≤◌, ◌^◌, min, length, map, take, IfOk, IfSome, None};
+ghost use Rattle.std.specs.Prelude.{◌≡◌, ◌==◌, ◌<◌, ◌≤◌, ◌^◌, min, length, map, take, IfOk};
+ghost use Rattle.std.specs.Prelude.{IfSome, None};
 ghost use Rattle.std.specs.List.{slice_split, list_all};
 ghost use Rattle.mqb_base.specs.Same.{same_bytes};
 ghost use Rattle.mqb_forms.specs.Words.{is_decimal, is_digit, value_of, number_in};
@@ -13,10 +14,12 @@ pub fn parts(alloc: Global, text: &[u8], by: u8) -> Result<Vec<&[u8]>, AllocErro
     text.split(|byte| *byte == by).collect(alloc)
 }
 
-/// How many parts are read in place: as many as a line has that is no commit, and as many as a send has fields.
+/// How many parts are read in place: as many as a line has that is no commit, and as many
+/// as a send has fields.
 pub const FEW: usize = 8;
 
-/// The parts of a text between bytes, in place: how many stand at the front of the room, where they fit.
+/// The parts of a text between bytes, in place: how many stand at the front of the
+/// room, where they fit.
 pub fn few_parts<'t>(text: &'t [u8], by: u8, room: &mut [&'t [u8]]) -> Option<usize>
     ensures within { IfSome result (λ count. count ≤ length room.new) }
     ensures parts { IfSome result (λ count. map (λ w. w.now) (take count room.new) ≡

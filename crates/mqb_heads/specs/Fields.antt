@@ -1,5 +1,6 @@
 -- Identifiers, names and padding in a packet.
-use Rattle.std.specs.Prelude.{ℕ, ◌-◌, ◌%◌, ◌==◌, List, [], ◌++◌, length, replicate, Option, Some, None, Result, Ok, Err, if◌then◌else◌}
+use Rattle.std.specs.Prelude.{ℕ, ◌-◌, ◌%◌, ◌==◌, List, [], ◌++◌, length, replicate, Option, Some}
+use Rattle.std.specs.Prelude.{None, Result, Ok, Err, if◌then◌else◌}
 use Rattle.mqb_base.specs.declared.queue_names.QueueName.{QueueName}
 use Rattle.mqb_base.specs.declared.ids.Guid.{Guid}
 use Rattle.mqb_base.specs.declared.ids.MessageId.{MessageId}
@@ -48,7 +49,8 @@ name_at kind r = do
   part ← lent_at len r
   Ok (record { kind = kind; part = part.0 }, part.1)
 
-abbrev pub some_name : Result (WireName × Reading) HeadFault → Result (Option WireName × Reading) HeadFault
+abbrev pub some_name : Result (WireName × Reading) HeadFault
+    → Result (Option WireName × Reading) HeadFault
 some_name (Ok name) = Ok (Some name.0, name.1)
 some_name (Err fault) = Err fault
 

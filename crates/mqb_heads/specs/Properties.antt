@@ -1,5 +1,6 @@
 -- The properties header.
-use Rattle.std.specs.Prelude.{◌≡◌, ℕ, ◌+◌, ◌*◌, ◌<◌, ◌≤◌, IsTrue, ◌^◌, ◌==◌, nat_lt, List, [], ◌∷◌, ◌++◌, length, take, replicate, Result, Ok, if◌then◌else◌}
+use Rattle.std.specs.Prelude.{◌≡◌, ℕ, ◌+◌, ◌*◌, ◌<◌, ◌≤◌, IsTrue, ◌^◌, ◌==◌, nat_lt, List, [], ◌∷◌}
+use Rattle.std.specs.Prelude.{◌++◌, length, take, replicate, Result, Ok, if◌then◌else◌}
 use Rattle.std.specs.List.{flat_map}
 use Rattle.mqb_base.specs.declared.class.Class.{Class}
 use Rattle.mqb_base.specs.declared.ids.MessageId.{MessageId}
@@ -80,7 +81,8 @@ unsecured_at r = do
   number ← field_at 4 r
   if number.0 == 0 then Ok number.1 else fault_at r.at fault.Secured
 
--- The sizes of the body, of the bytes that are allocated to it, and of the extension. Before the last are privacy, hash and cipher.
+-- The sizes of the body, of the bytes that are allocated to it, and of the extension. Before the
+-- last are privacy, hash and cipher.
 abbrev pub sizes_at : Reading → Result (Sizes × Reading) HeadFault
 sizes_at r = do
   body ← field_at 4 r
@@ -98,7 +100,8 @@ pub record Parts : Type 0 where
   pub body : List ℕ
 
 abbrev pub seen_parts : declared.Parts → Parts
-seen_parts parts = record { label = parts.label.now; extension = parts.extension.now; body = parts.body.now }
+seen_parts parts =
+    record { label = parts.label.now; extension = parts.extension.now; body = parts.body.now }
 
 -- The body is at the front of the bytes that are allocated to it.
 abbrev pub parts_at : ℕ → Sizes → Reading → Result (Parts × Reading) HeadFault
@@ -106,7 +109,10 @@ parts_at label_len sizes r = do
   label ← lent_at (2 * label_len) r
   extension ← lent_at sizes.extension label.1
   allocated ← lent_at sizes.allocated extension.1
-  Ok (record { label = label.0; extension = extension.0; body = take sizes.body allocated.0 }, allocated.1)
+  Ok (
+    record { label = label.0; extension = extension.0; body = take sizes.body allocated.0 },
+    allocated.1,
+  )
 
 unfoldable pub props_at : Reading → Result (Props × Reading) HeadFault
 props_at r = do
@@ -135,7 +141,8 @@ props_at r = do
 abbrev pub label_bytes : List ℕ → List ℕ
 label_bytes units = flat_map (bytes_of 2) units
 
--- A message whose properties header may be written: its class is in the table, its acknowledgement bits are four, and the sizes of its parts fit.
+-- A message whose properties header may be written: its class is in the table, its acknowledgement
+-- bits are four, and the sizes of its parts fit.
 pub record FitsProps (m : Message) : Type 0 where
   pub ack : m.ack ≤ MAX_ACK
   pub class : IsTrue (is_class m.class.0)
@@ -145,8 +152,10 @@ pub record FitsProps (m : Message) : Type 0 where
 
 -- the fields of a message's properties header before its parts
 abbrev pub props_fields : Message → List ℕ
-props_fields m = (m.ack ∷ length m.label ∷ []) ++ bytes_of 2 m.class.0 ++ plain_id m.correlation ++ bytes_of 4 m.body_type ++ bytes_of 4 m.tag
-    ++ bytes_of 4 (length m.body) ++ bytes_of 4 (length m.body) ++ replicate 12 0 ++ bytes_of 4 (length m.extension)
+props_fields m = (m.ack ∷ length m.label ∷ []) ++ bytes_of 2 m.class.0 ++ plain_id m.correlation
+    ++ bytes_of 4 m.body_type ++ bytes_of 4 m.tag
+    ++ bytes_of 4 (length m.body) ++ bytes_of 4 (length m.body) ++ replicate 12 0
+    ++ bytes_of 4 (length m.extension)
 
 abbrev pub props_parts : Message → List ℕ
 props_parts m = label_bytes m.label ++ m.extension ++ m.body
@@ -156,7 +165,8 @@ abbrev pub plain_props : Message → List ℕ
 plain_props m = padded (props_fields m ++ props_parts m)
 
 abbrev pub props_size : Message → ℕ
-props_size m = let len = 56 + 2 * length m.label + length m.extension + length m.body in len + padding len
+props_size m =
+    let len = 56 + 2 * length m.label + length m.extension + length m.body in len + padding len
 
 -- what the properties header of a message says
 abbrev pub props_of : Message → Props

@@ -13,7 +13,15 @@ tx_at r = do
   stamp ← field_at 4 ordinal.1
   number ← field_at 4 stamp.1
   previous ← field_at 4 number.1
-  Ok (record { sequence = record { ordinal = ordinal.0; stamp = stamp.0 }; number = number.0; previous = previous.0 }, previous.1)
+  Ok (
+    record {
+      sequence = record { ordinal = ordinal.0; stamp = stamp.0 };
+      number = number.0;
+      previous = previous.0;
+    },
+    previous.1,
+  )
 
 abbrev pub plain_tx : TxHead → List ℕ
-plain_tx head = bytes_of 4 0 ++ bytes_of 4 head.sequence.ordinal ++ bytes_of 4 head.sequence.stamp ++ bytes_of 4 head.number ++ bytes_of 4 head.previous
+plain_tx head = bytes_of 4 0 ++ bytes_of 4 head.sequence.ordinal ++ bytes_of 4 head.sequence.stamp
+    ++ bytes_of 4 head.number ++ bytes_of 4 head.previous

@@ -1,8 +1,10 @@
 -- The user header.
-use Rattle.std.specs.Prelude.{ℕ, ◌+◌, ◌≤◌, IfSome, IsTrue, Bool, true, false, ◌&&◌, ◌||◌, nat_le, List, ◌++◌, length, Option, option_map, Result, Ok, if◌then◌else◌}
+use Rattle.std.specs.Prelude.{ℕ, ◌+◌, ◌≤◌, IfSome, IsTrue, Bool, true, false, ◌&&◌, ◌||◌, nat_le}
+use Rattle.std.specs.Prelude.{List, ◌++◌, length, Option, option_map, Result, Ok, if◌then◌else◌}
 use Rattle.mqb_base.specs.declared.ids.Guid.{Guid}
 use Rattle.mqb_base.specs.declared.message.Delivery.{Delivery}
-use Rattle.mqb_base.specs.declared.message.Delivery.TheVariants.{Express, Recoverable, Transactional}
+use Rattle.mqb_base.specs.declared.message.Delivery.TheVariants.{Express, Recoverable}
+use Rattle.mqb_base.specs.declared.message.Delivery.TheVariants.{Transactional}
 use Rattle.mqb_base.specs.declared.message.Message.{Message}
 use Rattle.mqb_base.specs.declared.bits.TheConstants.{MAX_JOURNAL}
 use Rattle.mqb_base.specs.QueueNames.{names_queue, absent_or_queue}
@@ -17,7 +19,8 @@ use Rattle.mqb_names.specs.Wire.{kind_of, wire, IsWireForm}
 use Rattle.mqb_heads.specs.declared.user.UserHead.{UserHead}
 use Rattle.mqb_heads.specs.declared.user.UserFlags.{UserFlags}
 use Rattle.mqb_heads.specs.declared.user.Names as declared
-use Rattle.mqb_heads.specs.Fields.{WireName, seen_name, wire_name, kind_or_none, wire_or_none, source_at, name_at, optional_name_at, padded_at, padding, padded}
+use Rattle.mqb_heads.specs.Fields.{WireName, seen_name, wire_name, kind_or_none, wire_or_none}
+use Rattle.mqb_heads.specs.Fields.{source_at, name_at, optional_name_at, padded_at, padding, padded}
 use Rattle.mqb_heads.specs.Flags.{bit, bits, flag, placed}
 
 -- what a user header says
@@ -60,8 +63,10 @@ pub record IsUserRead (user : User) : Type 0 where
   pub admin : IfSome user.admin IsNameRead
   pub response : IfSome user.response IsNameRead
 
--- Bit 0 is set in a recoverable packet, and bit 1 where a transaction header is there, which makes it recoverable whatever bit 0 is. Bits 2 to 4 are
--- the destination's type, 5 to 7 the admin name's, 8 to 10 the response name's. Bit 11 asks for a dead letter, and bit 12 for a journal's copy.
+-- Bit 0 is set in a recoverable packet, and bit 1 where a transaction header is there,
+-- which makes it recoverable whatever bit 0 is. Bits 2 to 4 are the destination's type, 5
+-- to 7 the admin name's, 8 to 10 the response name's. Bit 11 asks for a dead letter, and
+-- bit 12 for a journal's copy.
 abbrev pub flags_of : ℕ → UserFlags
 flags_of word = record {
   recoverable = bit 0 word || bit 1 word;
@@ -72,15 +77,18 @@ flags_of word = record {
   journal = bits 11 2 word;
 }
 
--- The destination is there, and may be public, private or direct. The other names may also be absent.
+-- The destination is there, and may be public, private or direct. The other
+-- names may also be absent.
 abbrev pub have_types : UserFlags → Bool
-have_types flags = (nat_le 1 flags.destination && nat_le flags.destination 3) && (nat_le flags.admin 3 && nat_le flags.response 3)
+have_types flags = (nat_le 1 flags.destination && nat_le flags.destination 3)
+    && (nat_le flags.admin 3 && nat_le flags.response 3)
 
 -- Bit 13 is set where a security header is there.
 abbrev pub user_flags_at : Reading → Result (UserFlags × Reading) HeadFault
 user_flags_at r = do
   word ← field_at 4 r
-  if bit 13 word.0 then fault_at r.at Secured else if have_types (flags_of word.0) then Ok (flags_of word.0, word.1) else fault_at r.at Name
+  if bit 13 word.0 then fault_at r.at Secured else if have_types (flags_of word.0)
+      then Ok (flags_of word.0, word.1) else fault_at r.at Name
 
 -- the three names of a user header
 pub record Names : Type 0 where
@@ -89,7 +97,11 @@ pub record Names : Type 0 where
   pub response : Option WireName
 
 abbrev pub seen_names : declared.Names → Names
-seen_names names = record { destination = seen_name names.destination; admin = option_map seen_name names.admin; response = option_map seen_name names.response }
+seen_names names = record {
+  destination = seen_name names.destination;
+  admin = option_map seen_name names.admin;
+  response = option_map seen_name names.response;
+}
 
 abbrev pub names_at : UserFlags → Reading → Result (Names × Reading) HeadFault
 names_at flags r = do
@@ -144,12 +156,14 @@ is_transactional Transactional = true
 
 -- the user flags of a message
 abbrev pub user_flags : Message → ℕ
-user_flags m = flag 0 (is_durable m.delivery) + flag 1 (is_transactional m.delivery) + placed 2 (kind_of m.destination) + placed 5 (kind_or_none m.admin)
+user_flags m = flag 0 (is_durable m.delivery) + flag 1 (is_transactional m.delivery)
+    + placed 2 (kind_of m.destination) + placed 5 (kind_or_none m.admin)
     + placed 8 (kind_or_none m.response) + placed 11 m.journal
 
 -- the fields of a message's user header before its names
 abbrev pub user_fields : Message → Guid → List ℕ
-user_fields m target = swapped m.id.qm.0 ++ swapped target.0 ++ bytes_of 4 m.life ++ bytes_of 4 m.sent ++ bytes_of 4 m.id.number ++ bytes_of 4 (user_flags m)
+user_fields m target = swapped m.id.qm.0 ++ swapped target.0 ++ bytes_of 4 m.life
+    ++ bytes_of 4 m.sent ++ bytes_of 4 m.id.number ++ bytes_of 4 (user_flags m)
 
 abbrev pub user_names : Message → List ℕ
 user_names m = wire m.destination ++ wire_or_none m.admin ++ wire_or_none m.response

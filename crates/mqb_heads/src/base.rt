@@ -1,7 +1,8 @@
 ghost use Rattle.std.specs.Prelude.{◌≡◌, ◌≤◌, length};
 ghost use Rattle.mqb_fields.specs.Reading.{Moves, Reads};
 ghost use Rattle.mqb_fields.specs.Writing.{Wrote, put_at};
-ghost use Rattle.mqb_heads.specs.Base.{IsBaseHead, base_at, base_flags, base_of, flags_at, signature_at, plain_base, size_at, version_at};
+ghost use Rattle.mqb_heads.specs.Base.{IsBaseHead, base_at, base_flags, base_of, flags_at};
+ghost use Rattle.mqb_heads.specs.Base.{signature_at, plain_base, size_at, version_at};
 
 use crate::flags::{bit, bits, flag};
 use crate::writing::{put_half, put_word};
@@ -19,8 +20,9 @@ const VERSION: u8 = 0x10;
 /// The bytes `LIOR`.
 const SIGNATURE: u32 = 0x524F_494C;
 
-/// The base header, with which each packet begins. `size` is the packet's, in bytes, and `reach` the seconds that are left to reach the queue, of
-/// which 0xFFFFFFFF are without limit. `session` says that a user packet ends with a session header.
+/// The base header, with which each packet begins. `size` is the packet's, in bytes, and `reach`
+/// the seconds that are left to reach the queue, of which 0xFFFFFFFF are without limit. `session`
+/// says that a user packet ends with a session header.
 #[derive(Clone, Copy, Debug, PartialEq, Eq)]
 pub struct BaseHead {
     pub priority: u8,

@@ -1,6 +1,7 @@
 ghost use Rattle.std.specs.Prelude.{◌≡◌};
 ghost use Rattle.mqb_fields.specs.Reading.{Moves, Reads, ReadsAs};
-ghost use Rattle.mqb_heads.specs.Fields.{seen_name, id_at, name_at, optional_name_at, padded_at, padding, source_at};
+ghost use Rattle.mqb_heads.specs.Fields.{seen_name, id_at, name_at, optional_name_at, padded_at};
+ghost use Rattle.mqb_heads.specs.Fields.{padding, source_at};
 ghost use Rattle.std.specs.Prelude.{option_map};
 
 use mqb_base::{Guid, MessageId};

@@ -6,8 +6,10 @@ ghost use Rattle.mqb_fields.specs.Reading.{Reading, moved, rest_of};
 ghost use Rattle.mqb_heads.specs.declared.base.BaseHead.{BaseHead};
 ghost use Rattle.mqb_heads.specs.Base.{IsBaseHead, IsBaseRead, base_of, plain_base};
 ghost use Rattle.mqb_heads.specs.Transactions.{plain_tx, tx_at};
-ghost use Rattle.mqb_heads.specs.Properties.{FitsProps, IsPropsRead, Props, plain_props, props_at, props_of, props_size};
-ghost use Rattle.mqb_heads.specs.User.{FitsUser, IsUserRead, User, plain_user, user_at, user_of, user_size};
+ghost use Rattle.mqb_heads.specs.Properties.{FitsProps, IsPropsRead, Props, plain_props, props_at};
+ghost use Rattle.mqb_heads.specs.Properties.{props_of, props_size};
+ghost use Rattle.mqb_heads.specs.User.{FitsUser, IsUserRead, User, plain_user, user_at};
+ghost use Rattle.mqb_heads.specs.User.{user_of, user_size};
 ghost use Rattle.mqb_heads.specs.Values.{IsMessage, IsTxHead};
 ghost use Rattle.mqb_names.specs.Values.{AreBytes};
 
@@ -28,13 +30,15 @@ pub fn tx_is_read()
 pub fn user_is_read()
     ensures { (r : Reading) (m : Message) (target : Guid) (rest : List ℕ) → FitsUser m →
         IsMessage m → AreBytes 16 target.0 →
-        rest_of r ≡ plain_user m target ++ rest → user_at r ≡ Ok (user_of m target, moved (length (plain_user m target)) r) }
+        rest_of r ≡ plain_user m target ++ rest
+        → user_at r ≡ Ok (user_of m target, moved (length (plain_user m target)) r) }
 {}
 
 /// A properties header that is written is read again, wherever it stands and whatever follows.
 pub fn props_is_read()
     ensures { (r : Reading) (m : Message) (rest : List ℕ) → FitsProps m → IsMessage m →
-        rest_of r ≡ plain_props m ++ rest → props_at r ≡ Ok (props_of m, moved (length (plain_props m)) r) }
+        rest_of r ≡ plain_props m ++ rest
+        → props_at r ≡ Ok (props_of m, moved (length (plain_props m)) r) }
 {}
 
 /// How long the headers are that are written for a message.

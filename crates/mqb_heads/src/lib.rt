@@ -1,8 +1,9 @@
 //! The headers of packets. Numbers are little-endian.
 //!
-//! A reader takes its header from a cursor, field by field, and lends names, label, extension and body as slices. Its clause says that it gives what
-//! a function of `specs/` gives, and that function is the header's table. A writer puts a header at the start of a buffer, in the one form that is
-//! called plain: reserved bytes, padding and unused bits are 0.
+//! A reader takes its header from a cursor, field by field, and lends names, label, extension and
+//! body as slices. Its clause says that it gives what a function of `specs/` gives, and that
+//! function is the header's table. A writer puts a header at the start of a buffer, in the one form
+//! that is called plain: reserved bytes, padding and unused bits are 0.
 #![tactic(auto)]
 
 mod base;

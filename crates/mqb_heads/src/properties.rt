@@ -1,7 +1,10 @@
 ghost use Rattle.std.specs.Prelude.{◌≡◌, ◌≤◌, ◌<◌, ◌+◌, ◌^◌, IfOk, OnErr, length};
 ghost use Rattle.mqb_fields.specs.Reading.{Moves, Reads, ReadsAs};
 ghost use Rattle.mqb_fields.specs.Writing.{Wrote, put_at};
-ghost use Rattle.mqb_heads.specs.Properties.{allocated_at, class_at, label_len_at, marks_at, FitsProps, parts_at, plain_props, props_at, props_fields, props_parts, props_size, seen_parts, seen_props, sizes_at, unsecured_at};
+ghost use Rattle.mqb_heads.specs.Properties.{allocated_at, class_at, label_len_at, marks_at};
+ghost use Rattle.mqb_heads.specs.Properties.{FitsProps, parts_at, plain_props, props_at};
+ghost use Rattle.mqb_heads.specs.Properties.{props_fields, props_parts, props_size, seen_parts};
+ghost use Rattle.mqb_heads.specs.Properties.{seen_props, sizes_at, unsecured_at};
 
 use crate::fields::{padding, read_id, skip_padding};
 use crate::flags::bits;
@@ -136,7 +139,8 @@ fn read_parts<'a>(
     })
 }
 
-/// Reads a properties header, and lends its label, its extension and its body. After a fault the cursor is where it was.
+/// Reads a properties header, and lends its label, its extension and its body. After a fault the
+/// cursor is where it was.
 #[tactic(auto, unfolding(crate::specs::Properties::props_at))]
 pub fn read_props<'a>(cursor: &mut Cursor<'a>) -> Result<PropsHead<'a>, HeadFault>
     ensures read { ReadsAs seen_props props_at cursor.old cursor.new result }
@@ -211,7 +215,8 @@ pub fn props_len(message: &Message) -> usize
     len + padding(len)
 }
 
-/// Writes the properties header of a message at the start of a buffer, and tells how many bytes it has.
+/// Writes the properties header of a message at the start of a buffer, and tells
+/// how many bytes it has.
 pub fn put_props(message: &Message, to: &mut [u8]) -> usize
     requires message { FitsProps message.now }
     requires room { props_size message.now ≤ length to.old }

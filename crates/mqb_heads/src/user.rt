@@ -1,7 +1,9 @@
 ghost use Rattle.std.specs.Prelude.{◌≡◌, ◌≤◌, OnErr, ◌<◌, ◌+◌, ◌^◌, length};
 ghost use Rattle.mqb_fields.specs.Reading.{Reads, ReadsAs};
 ghost use Rattle.mqb_fields.specs.Writing.{Wrote, put_at};
-ghost use Rattle.mqb_heads.specs.User.{FitsUser, flags_of, have_types, names_at, plain_user, seen_names, seen_user, user_at, user_fields, user_flags, user_flags_at, user_names, user_size};
+ghost use Rattle.mqb_heads.specs.User.{FitsUser, flags_of, have_types, names_at, plain_user};
+ghost use Rattle.mqb_heads.specs.User.{seen_names, seen_user, user_at, user_fields, user_flags};
+ghost use Rattle.mqb_heads.specs.User.{user_flags_at, user_names, user_size};
 
 use crate::fields::{padding, read_guid, read_name, read_optional_name, skip_padding};
 use crate::flags::{bit, bits, flag, placed};
@@ -12,8 +14,9 @@ use mqb_base::{Delivery, Guid, Message};
 use mqb_fields::{Cursor, HeadFault, HeadKind};
 use mqb_names::{NameView, wire_len};
 
-/// The user header. `life` is the seconds from `sent` on within which the message is to be received, and `number` that of the message at its source.
-/// `transaction` says that a transaction header follows. Bits of `journal`: 1 dead letter, 2 journal.
+/// The user header. `life` is the seconds from `sent` on within which the message is to be
+/// received, and `number` that of the message at its source. `transaction` says that a transaction
+/// header follows. Bits of `journal`: 1 dead letter, 2 journal.
 #[derive(Clone, Copy, Debug)]
 pub struct UserHead<'a> {
     pub source: Guid,
@@ -185,7 +188,8 @@ pub fn user_len(message: &Message) -> usize
     len + padding(len)
 }
 
-/// Writes the user header of a message to the manager `target` at the start of a buffer, and tells how many bytes it has.
+/// Writes the user header of a message to the manager `target` at the start of a buffer, and tells
+/// how many bytes it has.
 pub fn put_user(message: &Message, target: &Guid, to: &mut [u8]) -> usize
     requires message { FitsUser message.now }
     requires room { user_size message.now ≤ length to.old }

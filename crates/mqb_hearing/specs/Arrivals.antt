@@ -1,5 +1,6 @@
 -- What arrived, as the record that tells of it, and the bytes of its packet.
-use Rattle.std.specs.Prelude.{[], ◌==◌, ◌≤◌, IsSome, List, None, Option, Some, if◌then◌else◌, length, unwrap_or, ℕ}
+use Rattle.std.specs.Prelude.{[], ◌==◌, ◌≤◌, IsSome, List, None, Option, Some, if◌then◌else◌}
+use Rattle.std.specs.Prelude.{length, unwrap_or, ℕ}
 use Rattle.mqb_entries.specs.declared.entry.ArrivedPart.{ArrivedPart}
 use Rattle.mqb_entries.specs.declared.entry.ArrivedPart.TheVariants as part
 use Rattle.mqb_entries.specs.declared.entry.Entry.{Entry}
@@ -16,7 +17,8 @@ part_shown part = unwrap_or (part_of part) Nothing
 
 -- the record of released numbers and of what arrived: none, where both are nothing
 abbrev pub arrival_of : ℕ → List ℕ → Part → Option Record
-arrival_of now numbers Nothing = if length numbers == 0 then None else Some (entry.Arrived now numbers Nothing)
+arrival_of now numbers Nothing =
+    if length numbers == 0 then None else Some (entry.Arrived now numbers Nothing)
 arrival_of now numbers part = Some (entry.Arrived now numbers part)
 
 -- the bytes of a part's packet
@@ -31,14 +33,16 @@ abbrev pub bytes_of_packet : Entry → List ℕ
 bytes_of_packet (form.Arrived now released part) = bytes_in part
 bytes_of_packet _ = []
 
--- What arrived: the record that tells of it, or none, and the bytes of its packet, where there is one.
+-- What arrived: the record that tells of it, or none, and the bytes of its
+-- packet, where there is one.
 pub record Arrived : Type 0 where
   pub written : Option Record
   pub packet : List ℕ
 
 -- at a moment, with released numbers, as a part of an entry
 abbrev pub arrived_as : ℕ → List ℕ → ArrivedPart → Arrived
-arrived_as now numbers part = record { written = arrival_of now numbers (part_shown part); packet = bytes_in part }
+arrived_as now numbers part =
+    record { written = arrival_of now numbers (part_shown part); packet = bytes_in part }
 
 -- Its packet was read, and is not longer than one can be.
 pub record IsPartRead (part : ArrivedPart) : Type 0 where

@@ -18,7 +18,8 @@ name_shown name = option_and_then name_in name
 -- the user packet that a view shows, whose message has this destination
 abbrev pub packet_shown : UserView → QueueName → UserPacket
 packet_shown v destination = user_packet (seen_user v)
-    (message_with (seen_user v) destination (name_shown (seen_user v).user.admin) (name_shown (seen_user v).user.response))
+    (message_with (seen_user v) destination (name_shown (seen_user v).user.admin)
+    (name_shown (seen_user v).user.response))
 
 -- A user packet as it was heard: what its bytes say, and all of them.
 pub record PacketHeard : Type 0 where

@@ -1,5 +1,6 @@
 -- What a manager makes of a packet, as a plan.
-use Rattle.std.specs.Prelude.{[], ◌≡◌, ◌⊎◌, IfOk, IsSomeAnd, List, None, Ok, Option, Result, Some, is_some, ℕ}
+use Rattle.std.specs.Prelude.{[], ◌≡◌, ◌⊎◌, IfOk, IsSomeAnd, List, None, Ok, Option, Result, Some}
+use Rattle.std.specs.Prelude.{is_some, ℕ}
 use Rattle.mqb_base.specs.declared.answers.Memory.{Memory}
 use Rattle.mqb_timeouts.specs.Work.{beside_of}
 use Rattle.mqb_entries.specs.SpelledEntries.{spelled}
@@ -66,15 +67,19 @@ owing_at (Some k) outcome = owing k outcome
 
 -- one who listens so, and knows nothing else
 abbrev pub listening_so : Behind → Listening
-listening_so b = listening (record { state = b.state; rest = no_rest; condition = Up }) b.session b.moment
+listening_so b =
+    listening (record { state = b.state; rest = no_rest; condition = Up }) b.session b.moment
 
 -- This holds of whatever a linked manager with this state makes of the packet that a view shows.
-abbrev pub OnHeard : State → one_end.State → ℕ → PacketView → (Manager → HeardOutcome → Type 0) → Type 0
-OnHeard s session now v P = (m : Manager) (p : Packet) → m.state ≡ s → packet_in (seen_packet v) ≡ Some p → P m (hear_linked m now p session)
+abbrev pub OnHeard : State → one_end.State → ℕ → PacketView → (Manager → HeardOutcome → Type 0)
+    → Type 0
+OnHeard s session now v P = (m : Manager) (p : Packet) → m.state ≡ s
+    → packet_in (seen_packet v) ≡ Some p → P m (hear_linked m now p session)
 
 -- This holds where a valid manager has this state and this session.
 abbrev pub WhereValid : State → one_end.State → Type 0 → Type 0
-WhereValid s session P = (m : Manager) → IsValidManager m → m.state ≡ s → m.rest.session ≡ Some session → P
+WhereValid s session P =
+    (m : Manager) → IsValidManager m → m.state ≡ s → m.rest.session ≡ Some session → P
 
 -- A view shows a packet that can be heard.
 abbrev pub ShowsReadable : PacketView → Type 0

@@ -1,4 +1,5 @@
-ghost use Rattle.std.specs.Prelude.{[], ◌&&◌, ◌==◌, ◌≡◌, ◌≤◌, IfSome, None, Some, length, option_map};
+ghost use Rattle.std.specs.Prelude.{[], ◌&&◌, ◌==◌, ◌≡◌, ◌≤◌, IfSome, None, Some};
+ghost use Rattle.std.specs.Prelude.{length, option_map};
 ghost use Rattle.mqb_entries.specs.SpelledEntries.{Fits, spelled};
 ghost use Rattle.mqb_model.specs.declared.limits.TheConstants.{MAX_RECORD};
 ghost use Rattle.mqb_model.specs.records.Reading.{record_in};
@@ -8,8 +9,9 @@ use mqb_entries::{ArrivedPart, Entry, Numbers};
 use std::alloc::Global;
 use std::marker::Model;
 
-/// What arrived: the numbers of the messages that the peer has stored, and what the packet brings. Contracts see the record that tells of it, or none
-/// where there is nothing to tell, and the bytes of the packet.
+/// What arrived: the numbers of the messages that the peer has stored, and what the packet brings.
+/// Contracts see the record that tells of it, or none where there is nothing to tell, and the
+/// bytes of the packet.
 #[derive(Debug, Drop)]
 pub struct Arrival<'a> {
     moment: u32,

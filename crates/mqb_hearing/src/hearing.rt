@@ -1,9 +1,11 @@
 ghost use Rattle.std.specs.Option.{option_map_or};
-ghost use Rattle.std.specs.Prelude.{[], ◌<◌, ◌≡◌, IfOk, IfSome, Ok, OnOk, Some, false, is_some, true};
+ghost use Rattle.std.specs.Prelude.{[], ◌<◌, ◌≡◌, IfOk, IfSome, Ok, OnOk, Some, false};
+ghost use Rattle.std.specs.Prelude.{is_some, true};
 ghost use Rattle.mqb_base.specs.Same.{same_guid};
 ghost use Rattle.mqb_timeouts.specs.Work.{beside_of};
 ghost use Rattle.mqb_model.specs.calls.hear.Hear.{hear_behind, hear_linked, hear_user};
-ghost use Rattle.mqb_model.specs.calls.hear.Session.{by_session, hear_set_up, is_foreign, set_up_answer, user_heard};
+ghost use Rattle.mqb_model.specs.calls.hear.Session.{by_session, hear_set_up, is_foreign};
+ghost use Rattle.mqb_model.specs.calls.hear.Session.{set_up_answer, user_heard};
 ghost use Rattle.mqb_model.specs.managers.Beside.{beside_done};
 ghost use Rattle.mqb_model.specs.managers.Manager.{Manager};
 ghost use Rattle.mqb_model.specs.managers.Outcomes.{recorded};
@@ -17,7 +19,8 @@ ghost use Rattle.mqb_packet.specs.declared.packet.Packet.TheVariants as packet;
 ghost use Rattle.mqb_session.specs.Sending.{is_ready};
 ghost use Rattle.mqb_session.specs.State.{IsKept};
 ghost use Rattle.mqb_session.specs.declared.heads.HeadHeard.TheVariants as head;
-ghost use Rattle.mqb_hearing.specs.Plans.{Brings, Hears, Makes, OnHeard, ShowsReadable, WhereValid, outcome_of, rest_after, whole_of};
+ghost use Rattle.mqb_hearing.specs.Plans.{Brings, Hears, Makes, OnHeard, ShowsReadable, WhereValid};
+ghost use Rattle.mqb_hearing.specs.Plans.{outcome_of, rest_after, whole_of};
 
 use crate::arrival::Arrival;
 use crate::lent::LentPacket;
@@ -50,7 +53,8 @@ pub struct Hearing<'a> {
     pub arrival: Arrival<'a>,
     /// What is to be done beside it.
     pub work: ExpressWork,
-    /// The index of the incoming row that owes an acknowledgement, one behind the last where the row is new.
+    /// The index of the incoming row that owes an acknowledgement, one behind the last
+    /// where the row is new.
     pub owes: Option<u32>,
 }
 
@@ -236,8 +240,8 @@ fn plan<'a>(
     }
 }
 
-/// What a manager with this session makes of a packet. It takes memory for the released numbers, for the name of a destination, and for an express
-/// message that arrives.
+/// What a manager with this session makes of a packet. It takes memory for the released numbers,
+/// for the name of a destination, and for an express message that arrives.
 pub fn hear<'a>(
     alloc: Global,
     contents: &Contents,

@@ -17,8 +17,8 @@ use mqb_packet::{
 use std::alloc::Global;
 use std::marker::Model;
 
-/// A user packet that is heard. Its destination is owned, since names are looked up by it, and its other parts are lent. Contracts see the packet
-/// and its bytes.
+/// A user packet that is heard. Its destination is owned, since names are looked up by it, and its
+/// other parts are lent. Contracts see the packet and its bytes.
 #[derive(Debug, Drop)]
 pub(crate) struct LentPacket<'a> {
     view: &'a UserView<'a>,

@@ -19,7 +19,8 @@ use mqb_timeouts::ExpressWork;
 use std::alloc::{AllocError, Global};
 use std::marker::Model;
 
-/// What a manager keeps that hears a packet at a moment, and the session behind the packet's header.
+/// What a manager keeps that hears a packet at a moment, and the session behind
+/// the packet's header.
 #[derive(Debug, Drop)]
 pub(crate) struct Listener<'c> {
     alloc: Global,

@@ -1,6 +1,7 @@
 ghost use Rattle.std.specs.Prelude.{[], ◌≡◌};
 ghost use Rattle.std.specs.List.{list_any};
-ghost use Rattle.mqb_model.specs.calls.hear.Streams.{acknowledged_in, may_acknowledge, hear_order_ack, order_acked, raises};
+ghost use Rattle.mqb_model.specs.calls.hear.Streams.{acknowledged_in, may_acknowledge};
+ghost use Rattle.mqb_model.specs.calls.hear.Streams.{hear_order_ack, order_acked, raises};
 ghost use Rattle.mqb_model.specs.state.Valid.{IsValidState};
 ghost use Rattle.mqb_orders.specs.Rows.{row_of};
 ghost use Rattle.mqb_hearing.specs.Plans.{Brings, Hears};
@@ -34,7 +35,8 @@ pub(crate) fn acknowledged_in(contents: &Contents, packet: &LentPacket<'_>) -> O
     }
 }
 
-/// Whether it raises the mark of a row to a peer: its number is above the acknowledged one and was offered.
+/// Whether it raises the mark of a row to a peer: its number is above the acknowledged
+/// one and was offered.
 fn raises(row: &OutRow, peer: u32, ack: OrderAck) -> bool
     ensures { result ≡ raises peer ack (row_of row.now) }
 {

@@ -1,5 +1,8 @@
 ghost use Rattle.std.specs.Prelude.{[], ◌<◌, ◌≡◌, true};
-ghost use Rattle.mqb_model.specs.calls.hear.Plain.{express_answer, hear_arriving, hear_express, hear_final, hear_in_order, hear_message, hear_plain, hear_recoverable, hear_stored, stored_answer};
+ghost use Rattle.mqb_model.specs.calls.hear.Plain.{express_answer, hear_arriving, hear_express};
+ghost use Rattle.mqb_model.specs.calls.hear.Plain.{hear_final, hear_in_order, hear_message};
+ghost use Rattle.mqb_model.specs.calls.hear.Plain.{hear_plain, hear_recoverable};
+ghost use Rattle.mqb_model.specs.calls.hear.Plain.{hear_stored, stored_answer};
 ghost use Rattle.mqb_model.specs.state.Valid.{IsValidState};
 ghost use Rattle.mqb_hearing.specs.Plans.{Brings, Hears};
 

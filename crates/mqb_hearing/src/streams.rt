@@ -1,5 +1,6 @@
 ghost use Rattle.std.specs.Prelude.{[], ◌<◌, ◌≡◌, IfSome, length};
-ghost use Rattle.mqb_model.specs.calls.hear.Streams.{decided_answer, has_sequence, hear_duplicate, hear_in_stream, hear_next, index_for, judged};
+ghost use Rattle.mqb_model.specs.calls.hear.Streams.{decided_answer, has_sequence, hear_duplicate};
+ghost use Rattle.mqb_model.specs.calls.hear.Streams.{hear_in_stream, hear_next, index_for, judged};
 ghost use Rattle.mqb_model.specs.state.Rows.{in_index, in_row};
 ghost use Rattle.mqb_orders.specs.Judging.{verdict_of};
 ghost use Rattle.mqb_hearing.specs.Plans.{Brings, Hears};
@@ -125,7 +126,8 @@ impl Listener<'_> {
         }
     }
 
-    /// A message of a stream is judged, in order or not. One of another class than the ordinary one is discarded.
+    /// A message of a stream is judged, in order or not. One of another class than the
+    /// ordinary one is discarded.
     pub(crate) fn hear_in_stream<'a>(
         &self,
         packet: &LentPacket<'a>,

@@ -1,5 +1,6 @@
 -- What is acknowledged was decided.
-use Rattle.std.specs.Prelude.{◌&&◌, ◌<◌, ◌==◌, ◌≡◌, ◌≤◌, ◌⊎◌, Bool, None, Some, false, slice_get, true, ℕ}
+use Rattle.std.specs.Prelude.{◌&&◌, ◌<◌, ◌==◌, ◌≡◌, ◌≤◌, ◌⊎◌, Bool, None, Some, false, slice_get}
+use Rattle.std.specs.Prelude.{true, ℕ}
 use Rattle.mqb_base.specs.declared.class.TheConstants.Class.{ORDER_ACKNOWLEDGEMENT}
 use Rattle.mqb_base.specs.declared.ids.Identity.{Identity}
 use Rattle.mqb_base.specs.declared.message.Message.{Message}
@@ -26,27 +27,38 @@ use Rattle.mqb_history.specs.Expired.{expiries_told}
 abbrev pub is_order_ack : Message → Bool
 is_order_ack m = is_express m.delivery && m.class.0 == ORDER_ACKNOWLEDGEMENT.0
 
--- An order acknowledgement is its sender's own, and spells a position that it decided of a channel whose source is the manager to which it goes.
+-- An order acknowledgement is its sender's own, and spells a position that it decided of a channel
+-- whose source is the manager to which it goes.
 pub record SpellsDecided (c : Course) (sender : ℕ) (p : UserPacket) : Type 0 where
   pub source : p.message.id.qm ≡ (manager_at c.network sender).state.identity.guid
   pub position : Position
-  pub spelled : p.message.body ≡ ack_body (record { sequence = position.sequence; number = position.number })
+  pub spelled : p.message.body
+      ≡ ack_body (record { sequence = position.sequence; number = position.number })
   pub destination : QueueName
-  pub decided : In position (decisions (record { source = p.to; destination = destination }) (written_of sender c.written))
+  pub decided : In position (decisions (record { source = p.to; destination = destination })
+      (written_of sender c.written))
 
--- The message of another manager's stream that a final acknowledgement names was decided by its sender.
+-- The message of another manager's stream that a final acknowledgement names was
+-- decided by its sender.
 abbrev pub NamesDecided : Course → ℕ → UserPacket → Type 0
-NamesDecided c sender p = (i : ℕ) (m : Commitment) → (i ≡ sender → ⊥) → In m (commitments (written_of i c.written)) → m.message.id ≡ p.message.correlation
-    → In m.position (decisions (record { source = (manager_at c.network i).state.identity.guid; destination = m.message.destination }) (written_of sender c.written))
+NamesDecided c sender p = (i : ℕ) (m : Commitment) → (i ≡ sender → ⊥)
+    → In m (commitments (written_of i c.written)) → m.message.id ≡ p.message.correlation
+    → In m.position (decisions (record {
+      source = (manager_at c.network i).state.identity.guid;
+      destination = m.message.destination;
+    }) (written_of sender c.written))
 
 -- what a packet acknowledges that is in no stream
 pub record AcknowledgesTruly (c : Course) (sender : ℕ) (p : UserPacket) : Type 0 where
   pub order : is_order_ack p.message ≡ true → SpellsDecided c sender p
-  pub final : is_express p.message.delivery ≡ false → is_final_class p.message.class ≡ true → NamesDecided c sender p
+  pub final : is_express p.message.delivery ≡ false → is_final_class p.message.class ≡ true
+      → NamesDecided c sender p
 
 -- Whatever a packet acknowledges that was ever sent was decided by its sender.
 abbrev pub AreAcknowledgingTruly : Course → Type 0
-AreAcknowledgingTruly c = (k : ℕ) (note : Note) (p : UserPacket) → numbered c.network.notes k ≡ Some note → numbered c.sent k ≡ Some (packet.User p) → p.tx ≡ None
+AreAcknowledgingTruly c =
+    (k : ℕ) (note : Note) (p : UserPacket) → numbered c.network.notes k ≡ Some note
+    → numbered c.sent k ≡ Some (packet.User p) → p.tx ≡ None
     → AcknowledgesTruly c note.sender p
 
 -- The rows.
@@ -62,12 +74,17 @@ pub record IsDecidedThere (c : Course) (i : ℕ) (row : Row) (number : ℕ) : Ty
   pub decider : ℕ
   pub leads : LeadsTo c i row decider
   pub decided : In (record { sequence = row.sequence; number = number })
-      (decisions (record { source = (manager_at c.network i).state.identity.guid; destination = row.destination }) (written_of decider c.written))
+      (decisions (record {
+        source = (manager_at c.network i).state.identity.guid;
+        destination = row.destination;
+      }) (written_of decider c.written))
 
 -- Each number up to the acknowledged one of a row was decided where the row leads, or expired.
 abbrev pub AreAcknowledgedTruly : Course → Type 0
-AreAcknowledgedTruly c = (i : ℕ) (row : Row) (n : ℕ) → In row (manager_at c.network i).state.outs → 0 < n → n ≤ row.acked
-    → IsDecidedThere c i row n ⊎ In (record { sequence = row.sequence; number = n }) (expiries_told (lines_written (written_of i c.written)))
+AreAcknowledgedTruly c =
+    (i : ℕ) (row : Row) (n : ℕ) → In row (manager_at c.network i).state.outs → 0 < n → n ≤ row.acked
+    → IsDecidedThere c i row n ⊎ In (record { sequence = row.sequence; number = n })
+    (expiries_told (lines_written (written_of i c.written)))
 
 -- Committed messages.
 
@@ -88,7 +105,9 @@ pub record WasDecidedThere (c : Course) (i : ℕ) (m : Commitment) : Type 0 wher
   pub destination : row.destination ≡ m.message.destination
   pub decided : IsDecidedThere c i row m.position.number
 
--- Each message that a manager committed waits in its row above the acknowledged number, or was decided where that leads, or expired.
+-- Each message that a manager committed waits in its row above the acknowledged number, or was
+-- decided where that leads, or expired.
 abbrev pub AreWaitingUntilDecided : Course → Type 0
 AreWaitingUntilDecided c = (i : ℕ) (m : Commitment) → In m (commitments (written_of i c.written))
-    → WaitsAbove (manager_at c.network i).state m ⊎ (WasDecidedThere c i m ⊎ In m.position (expiries_told (lines_written (written_of i c.written))))
+    → WaitsAbove (manager_at c.network i).state m ⊎ (WasDecidedThere c i m
+    ⊎ In m.position (expiries_told (lines_written (written_of i c.written))))

@@ -31,9 +31,11 @@ pub record IsAskedFor (ms : List Move) (i : ℕ) (m : Message) : Type 0 where
 
 -- Each message that a manager committed is asked for.
 abbrev pub AreAskedFor : List Move → Course → Type 0
-AreAskedFor ms c = (i : ℕ) (x : Commitment) → In x (commitments (written_of i c.written)) → IsAskedFor ms i x.message
+AreAskedFor ms c = (i : ℕ) (x : Commitment) → In x (commitments (written_of i c.written))
+    → IsAskedFor ms i x.message
 
 -- What is committed in a run is what its events ask for.
 abbrev pub CommittedIsAsked : Type 0
-CommittedIsAsked = (known : List Identity) (ms : List Move) → AreApart known → IsRun known ms → (kept : ℕ → Bool)
+CommittedIsAsked =
+    (known : List Identity) (ms : List Move) → AreApart known → IsRun known ms → (kept : ℕ → Bool)
     → AreAskedFor ms (settled kept (after_run known ms))

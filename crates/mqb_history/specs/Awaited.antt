@@ -1,4 +1,5 @@
--- What a manager still keeps of the messages that another one decided: their fates are still to come.
+-- What a manager still keeps of the messages that another one decided: their
+-- fates are still to come.
 use Rattle.std.specs.Prelude.{◌<◌, ◌≡◌, ◌≤◌, ◌⊎◌, IsTrue, Some, length, slice_get, ℕ}
 use Rattle.mqb_base.specs.Bits.{keeps_dead}
 use Rattle.mqb_base.specs.declared.ids.MessageId.{MessageId}
@@ -40,15 +41,19 @@ pub record WaitsToBeTold (n : Network) (i j : ℕ) (id : MessageId) : Type 0 whe
 abbrev pub IsAwaited : Network → (i j : ℕ) → MessageId → Type 0
 IsAwaited n i j id = IsHeld n j id ⊎ (WaitsToBeTold n i j id ⊎ (MAX_NUMBER < (manager_at n j).state.next_number))
 
--- So it is with each message with the dead-letter bit that a row to a manager keeps, and that was decided there.
+-- So it is with each message with the dead-letter bit that a row to a manager keeps, and
+-- that was decided there.
 abbrev pub AreFatesAwaited : Course → Type 0
-AreFatesAwaited c = (i j : ℕ) (row : Row) (k : Kept) → j < length c.network.managers → In row (manager_at c.network i).state.outs
-    → peer_known (manager_at c.network i).state (manager_at c.network j).state.identity.guid ≡ Some row.peer → In k row.kept → IsTrue (keeps_dead k.message)
+AreFatesAwaited c = (i j : ℕ) (row : Row) (k : Kept) → j < length c.network.managers
+    → In row (manager_at c.network i).state.outs
+    → peer_known (manager_at c.network i).state (manager_at c.network j).state.identity.guid
+    ≡ Some row.peer → In k row.kept → IsTrue (keeps_dead k.message)
     → IsDecidedThere c i row k.number → IsAwaited c.network i j k.message.id
 
 -- And what a row keeps at or below its acknowledged number has that bit, and was decided there.
 abbrev pub AreKeptForFates : Course → Type 0
-AreKeptForFates c = (i : ℕ) (row : Row) (k : Kept) → In row (manager_at c.network i).state.outs → In k row.kept → k.number ≤ row.acked
+AreKeptForFates c = (i : ℕ) (row : Row) (k : Kept) → In row (manager_at c.network i).state.outs
+    → In k row.kept → k.number ≤ row.acked
     → IsTrue (keeps_dead k.message) × IsDecidedThere c i row k.number
 
 -- At each point of each run.

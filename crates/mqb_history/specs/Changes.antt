@@ -1,5 +1,7 @@
--- The primitive changes of a course. Each carries its choices, what it does is a function, and whether it may happen is a test.
-use Rattle.std.specs.Prelude.{[], ◌&&◌, ◌||◌, Bool, List, None, Option, Some, false, is_none, is_some, not, true, ℕ}
+-- The primitive changes of a course. Each carries its choices, what it does is a function, and
+-- whether it may happen is a test.
+use Rattle.std.specs.Prelude.{[], ◌&&◌, ◌||◌, Bool, List, None, Option, Some, false, is_none}
+use Rattle.std.specs.Prelude.{is_some, not, true, ℕ}
 use Rattle.mqb_model.specs.managers.Manager.{Manager, doubt_of}
 use Rattle.mqb_model.specs.managers.Outcomes.{Outcome}
 use Rattle.mqb_network.specs.Changes.{dropped, ended, restarted_at, unread_at}
@@ -40,7 +42,8 @@ given_out outcome (Some how) = []
 
 -- a manager pumps
 abbrev pub pumping : ℕ → ℕ → Option Failure → Course → Course
-pumping i now failure c = posted i now (given_out (outcome_of (manager_at c.network i) (Pump now)) failure)
+pumping i now failure c =
+    posted i now (given_out (outcome_of (manager_at c.network i) (Pump now)) failure)
     (calling i (Pump now) failure c)
 
 -- a packet that has a note and says this is heard
@@ -52,7 +55,8 @@ hearing _ _ now failure c = c
 abbrev pub changed : Change → Course → Course
 changed (Calls i call failure) c = calling i call failure c
 changed (Pumps i now failure) c = pumping i now failure c
-changed (Hears k now failure) c = hearing (numbered c.network.notes k) (numbered c.sent k) now failure c
+changed (Hears k now failure) c =
+    hearing (numbered c.network.notes k) (numbered c.sent k) now failure c
 changed (Links a b window_a window_b) c = moved (both_linked a b window_a window_b) c
 changed (Ends i) c = moved (ended i) c
 changed (Drops k) c = moved (dropped k) c
@@ -78,14 +82,19 @@ may_hear c (Some note) (Some p) now failure =
     is_underway c.network note && may_fail (manager_at c.network note.receiver) (Hear now p) failure
 may_hear c _ _ now failure = false
 
--- A change may happen. Managers are linked only where both are up and neither has a connection, and started only where they have none.
+-- A change may happen. Managers are linked only where both are up and neither has a connection, and
+-- started only where they have none.
 abbrev pub may_change : Course → Change → Bool
-may_change c (Calls i call failure) = not (is_of_packets call) && may_fail (manager_at c.network i) call failure
+may_change c (Calls i call failure) =
+    not (is_of_packets call) && may_fail (manager_at c.network i) call failure
 may_change c (Pumps i now failure) = may_fail (manager_at c.network i) (Pump now) failure
-may_change c (Hears k now failure) = may_hear c (numbered c.network.notes k) (numbered c.sent k) now failure
-may_change c (Links a b window_a window_b) = not (any_down c.network a b) && not (any_connected c.network a b)
+may_change c (Hears k now failure) =
+    may_hear c (numbered c.network.notes k) (numbered c.sent k) now failure
+may_change c (Links a b window_a window_b) =
+    not (any_down c.network a b) && not (any_connected c.network a b)
 may_change c (Ends i) = true
 may_change c (Drops k) = true
 may_change c (Restarts i) = not (is_connected c.network i)
-may_change c (Finds i) = not (is_connected c.network i) && is_some (doubt_of (manager_at c.network i).condition)
+may_change c (Finds i) =
+    not (is_connected c.network i) && is_some (doubt_of (manager_at c.network i).condition)
 may_change c (Fails i) = not (is_connected c.network i)

@@ -12,7 +12,8 @@ use Rattle.mqb_network.specs.Replies.{Delivery, Reply}
 use Rattle.mqb_network.specs.Replies as reply
 use Rattle.mqb_network.specs.Runs.{IsRun, Move, after_run, answer, beginning, may, replies_from}
 
--- how a disk behaved, as an answer tells it: it failed; the record in doubt was kept, or lost; the store was too far on; or none of these
+-- how a disk behaved, as an answer tells it: it failed; the record in doubt was kept, or lost; the
+-- store was too far on; or none of these
 pub data Sign : Type 0 where
   Broke : Failure → Sign
   Found : Sign
@@ -40,19 +41,25 @@ signs_of reply.OpenedLost = Missed ∷ []
 signs_of (reply.Checkpointed given) = base_sign given ∷ []
 signs_of _ = Quiet ∷ []
 
--- Two choices that may be made in an event are one where the answers give the same signs, whatever follows these.
+-- Two choices that may be made in an event are one where the answers give the same signs,
+-- whatever follows these.
 abbrev pub IsShown : Course → Event → Type 0
 IsShown c e = (a b : Choice) (x y : List Sign) → IsTrue (may c e a) → IsTrue (may c e b)
     → signs_of (answer c (record { event = e; choice = a })).reply ++ x
     ≡ signs_of (answer c (record { event = e; choice = b })).reply ++ y → a ≡ b
 
--- Replies show what was chosen: in each event behind a run, and with each record in doubt applied or left out.
+-- Replies show what was chosen: in each event behind a run, and with each record in doubt
+-- applied or left out.
 abbrev pub RepliesShowChoices : Type 0
-RepliesShowChoices = (known : List Identity) (ms : List Move) → AreApart known → IsRun known ms → (e : Event)
-    → IsShown (after_run known ms) e × ((kept : ℕ → Bool) → IsShown (settled kept (after_run known ms)) e)
+RepliesShowChoices =
+    (known : List Identity) (ms : List Move) → AreApart known → IsRun known ms → (e : Event)
+    → IsShown (after_run known ms) e
+    × ((kept : ℕ → Bool) → IsShown (settled kept (after_run known ms)) e)
 
 -- Two runs with the same events, in whose replies are the same signs, are one.
 abbrev pub RunsAreShown : Type 0
-RunsAreShown = (known : List Identity) (ms ns : List Move) → AreApart known → IsRun known ms → IsRun known ns
+RunsAreShown =
+    (known : List Identity) (ms ns : List Move) → AreApart known → IsRun known ms → IsRun known ns
     → map (λ m. m.event) ms ≡ map (λ n. n.event) ns
-    → map signs_of (replies_from (beginning known) ms) ≡ map signs_of (replies_from (beginning known) ns) → ms ≡ ns
+    → map signs_of (replies_from (beginning known) ms)
+    ≡ map signs_of (replies_from (beginning known) ns) → ms ≡ ns

@@ -1,6 +1,7 @@
 -- What the records of a manager say of the messages that it commits to streams.
 use Rattle.std.specs.List.{AllByRecursion, cons_option, flat_map, range_with_len}
-use Rattle.std.specs.Prelude.{[], ◌+◌, ◌∷◌, ◌≡◌, IsFalse, List, None, Option, Some, filter_map, if◌then◌else◌, length, ℕ}
+use Rattle.std.specs.Prelude.{[], ◌+◌, ◌∷◌, ◌≡◌, IsFalse, List, None, Option, Some, filter_map}
+use Rattle.std.specs.Prelude.{if◌then◌else◌, length, ℕ}
 use Rattle.mqb_base.specs.Same.{same_id}
 use Rattle.mqb_base.specs.Sequences.{same_sequence}
 use Rattle.mqb_base.specs.declared.ids.SequenceId.{SequenceId}
@@ -22,7 +23,10 @@ use Rattle.mqb_history.specs.Decided.{written_of}
 
 -- a message joins a row: under the number behind the last one
 abbrev pub commitment_to : Row → Message → Commitment
-commitment_to row m = record { position = record { sequence = row.sequence; number = row.committed + 1 }; message = m }
+commitment_to row m = record {
+  position = record { sequence = row.sequence; number = row.committed + 1 };
+  message = m;
+}
 
 -- a message for a peer joins its sequence
 abbrev pub commitment_at : ℕ → State → Target → Message → Option Commitment
@@ -32,7 +36,8 @@ commitment_at now s target m = None
 -- those of the sends of a transaction, one after another
 abbrev pub commitments_of : ℕ → Effect → List Message → List Commitment
 commitments_of now e [] = []
-commitments_of now e (m ∷ ms) = cons_option (commitment_at now (journalled e.state m) (resolved e.state m.destination) m)
+commitments_of now e (m ∷ ms) =
+    cons_option (commitment_at now (journalled e.state m) (resolved e.state m.destination) m)
     (commitments_of now (send_made now e m) ms)
 
 -- those of a record that met a state
@@ -55,7 +60,8 @@ numbers_in s cs = filter_map (number_in s) cs
 -- no two messages have one identifier
 abbrev pub IdentifiersDiffer : List Commitment → Type 0
 IdentifiersDiffer [] = Unit {0}
-IdentifiersDiffer (c ∷ cs) = AllByRecursion (λ d. IsFalse (same_id c.message.id d.message.id)) cs × IdentifiersDiffer cs
+IdentifiersDiffer (c ∷ cs) =
+    AllByRecursion (λ d. IsFalse (same_id c.message.id d.message.id)) cs × IdentifiersDiffer cs
 
 -- what holds of the messages that a manager commits
 pub record IsCommittedInOrder (cs : List Commitment) : Type 0 where
@@ -64,6 +70,7 @@ pub record IsCommittedInOrder (cs : List Commitment) : Type 0 where
   -- no two have one identifier
   pub differ : IdentifiersDiffer cs
 
--- Each manager numbers the messages of each sequence from 1 on, and gives each message an identifier of its own.
+-- Each manager numbers the messages of each sequence from 1 on, and gives each message an
+-- identifier of its own.
 abbrev pub AreCommittedInOrder : Course → Type 0
 AreCommittedInOrder c = (i : ℕ) → IsCommittedInOrder (commitments (written_of i c.written))

@@ -1,5 +1,6 @@
 -- How often messages came to queues, left them, and stand there.
-use Rattle.std.specs.Prelude.{◌+◌, ◌<◌, ◌≡◌, ◌≤◌, List, None, Option, Some, count_by, filter_map, max, sum_by, ℕ}
+use Rattle.std.specs.Prelude.{◌+◌, ◌<◌, ◌≡◌, ◌≤◌, List, None, Option, Some, count_by, filter_map}
+use Rattle.std.specs.Prelude.{max, sum_by, ℕ}
 use Rattle.mqb_base.specs.Same.{same_id}
 use Rattle.mqb_base.specs.declared.ids.MessageId.{MessageId}
 use Rattle.mqb_base.specs.declared.ledger.Line.{Line}
@@ -45,23 +46,26 @@ bearing id q = count_by (λ m. same_id id m.id) (all_of q.lists)
 abbrev pub standing : MessageId → Course → ℕ
 standing id c = sum_by (λ m. sum_by (bearing id) m.state.places.queues) c.network.managers
 
--- Unless a message is express, no more copies of it stand in queues, or left them, than lines say came to queues; and where no line says so of a message,
--- which is a notice that was put where it was made, one.
+-- Unless a message is express, no more copies of it stand in queues, or left them, than lines
+-- say came to queues; and where no line says so of a message, which is a notice that was put
+-- where it was made, one.
 abbrev pub AreCopiesTold : Course → Type 0
 AreCopiesTold c = (id : MessageId) → id.number < FIRST_EXPRESS
-    → standing id c + times left_in id (lines_written c.written) ≤ max 1 (times came_in id (lines_written c.written))
+    → standing id c + times left_in id (lines_written c.written)
+    ≤ max 1 (times came_in id (lines_written c.written))
 
 -- What was sent in a transaction, or put where it was sent, comes to a queue once at most.
 abbrev pub IsSentOnce : Course → Type 0
-IsSentOnce c = (id : MessageId) → In id (told_by sent_in c) → times came_in id (lines_written c.written) ≤ 1
+IsSentOnce c =
+    (id : MessageId) → In id (told_by sent_in c) → times came_in id (lines_written c.written) ≤ 1
 
 -- What joined a stream and was not put stands in no queue, and left none.
 abbrev pub IsNoneUnput : Course → Type 0
 IsNoneUnput c = (id : MessageId) → In id (told_by committed_in c) → (In id (told_by put_in c) → ⊥)
     → standing id c + times left_in id (lines_written c.written) ≡ 0
 
--- Queues have, and let go, no more than came to them: each message that is sent in a transaction, or put where it is sent, is in one queue at most, once, and
--- leaves it once.
+-- Queues have, and let go, no more than came to them: each message that is sent in a transaction,
+-- or put where it is sent, is in one queue at most, once, and leaves it once.
 pub record AreCopiesRight (c : Course) : Type 0 where
   pub told : AreCopiesTold c
   pub once : IsSentOnce c

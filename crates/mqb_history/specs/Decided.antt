@@ -1,6 +1,7 @@
 -- What the records of a manager say of the messages that it decides.
 use Rattle.std.specs.List.{AllByRecursion}
-use Rattle.std.specs.Prelude.{[], ◌&&◌, ◌==◌, ◌∷◌, Bool, IsTrue, List, None, Option, Some, filter, filter_map, if◌then◌else◌, ℕ}
+use Rattle.std.specs.Prelude.{[], ◌&&◌, ◌==◌, ◌∷◌, Bool, IsTrue, List, None, Option, Some, filter}
+use Rattle.std.specs.Prelude.{filter_map, if◌then◌else◌, ℕ}
 use Rattle.mqb_base.specs.Same.{same_guid, same_name}
 use Rattle.mqb_base.specs.declared.heads.TxHead.{TxHead}
 use Rattle.mqb_base.specs.declared.message.Message.{Message}
@@ -37,7 +38,8 @@ abbrev pub RiseStrictly : List Position → Type 0
 RiseStrictly [] = Unit {0}
 RiseStrictly (p ∷ ps) = AllByRecursion (λ q. IsTrue (precedes p q)) ps × RiseStrictly ps
 
--- Each manager decides the messages of each channel in the order of their positions, each once: nothing of a sequence once something of a later
--- one is decided, and no number again.
+-- Each manager decides the messages of each channel in the order of their positions, each once:
+-- nothing of a sequence once something of a later one is decided, and no number again.
 abbrev pub IsDecidedInOrder : Course → Type 0
-IsDecidedInOrder c = (i : ℕ) (channel : Channel) → RiseStrictly (decisions channel (written_of i c.written))
+IsDecidedInOrder c =
+    (i : ℕ) (channel : Channel) → RiseStrictly (decisions channel (written_of i c.written))

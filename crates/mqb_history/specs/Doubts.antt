@@ -26,7 +26,8 @@ abbrev pub StaysDown : Course → Change → Type 0
 StaysDown c x = (i : ℕ) → is_down (manager_at c.network i) ≡ true → (started_by x ≡ Some i → ⊥)
     → IsAsBefore (manager_at c.network i) (manager_at (changed x c).network i)
 
--- Where the disk fails in a call, the manager is down in the state that it had, and the record is in doubt.
+-- Where the disk fails in a call, the manager is down in the state that it had, and
+-- the record is in doubt.
 pub record IsLeftInDoubt (before now : Manager) (outcome : Outcome Answer) : Type 0 where
   pub state : now.state ≡ before.state
   pub condition : now.condition ≡ Down outcome.entry
@@ -34,6 +35,8 @@ pub record IsLeftInDoubt (before now : Manager) (outcome : Outcome Answer) : Typ
 -- A failure leaves a doubt, and a start settles it: the record was kept or lost.
 pub record IsSettled (c : Course) (i : ℕ) : Type 0 where
   pub fails : (call : Call) (how : Failure)
-      → IsLeftInDoubt (manager_at c.network i) (manager_at (calling i call (Some how) c).network i) (outcome_of (manager_at c.network i) call)
+      → IsLeftInDoubt (manager_at c.network i) (manager_at (calling i call (Some how) c).network i)
+      (outcome_of (manager_at c.network i) call)
   pub kept : manager_at (changed (Finds i) c).network i ≡ restarted (manager_at c.network i) true
-  pub lost : manager_at (changed (Restarts i) c).network i ≡ restarted (manager_at c.network i) false
+  pub lost : manager_at (changed (Restarts i) c).network i
+      ≡ restarted (manager_at c.network i) false

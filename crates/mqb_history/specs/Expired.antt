@@ -23,8 +23,10 @@ use Rattle.mqb_history.specs.Committed.{commitments}
 use Rattle.mqb_history.specs.Decided.{decisions, written_of}
 use Rattle.mqb_history.specs.Told.{joined_by}
 
--- An outgoing row of a state keeps the message, above the number that it offered last, and its time to reach its queue is over at that moment.
-pub record MayExpire (s : State) (stream : Stream) (number : ℕ) (id : MessageId) (moment : ℕ) : Type 0 where
+-- An outgoing row of a state keeps the message, above the number that it offered last, and its time
+-- to reach its queue is over at that moment.
+pub record MayExpire (s : State) (stream : Stream) (number : ℕ) (id : MessageId)
+    (moment : ℕ) : Type 0 where
   pub row : Row
   pub there : In row s.outs
   pub of_row : stream ≡ stream_of s row
@@ -35,8 +37,10 @@ pub record MayExpire (s : State) (stream : Stream) (number : ℕ) (id : MessageI
   pub unoffered : row.offered < kept.number
   pub due : IsTrue (due kept.message moment)
 
--- A message joined this stream under this number with this identifier, and it was due at that moment.
-pub record WasDue (own : Guid) (cs : List Commitment) (stream : Stream) (number : ℕ) (id : MessageId) (moment : ℕ) : Type 0 where
+-- A message joined this stream under this number with this identifier, and it
+-- was due at that moment.
+pub record WasDue (own : Guid) (cs : List Commitment) (stream : Stream) (number : ℕ)
+    (id : MessageId) (moment : ℕ) : Type 0 where
   pub commitment : Commitment
   pub there : In commitment cs
   pub joined : joined_by own commitment ≡ record { stream = stream; number = number; id = id }
@@ -46,30 +50,38 @@ pub record WasDue (own : Guid) (cs : List Commitment) (stream : Stream) (number 
 abbrev pub AreExpiredDuly : Course → Type 0
 AreExpiredDuly c = (i : ℕ) (stream : Stream) (number : ℕ) (id : MessageId) (moment : ℕ)
     → In (line.Expired stream number id moment) (lines_written (written_of i c.written))
-    → WasDue (manager_at c.network i).state.identity.guid (commitments (written_of i c.written)) stream number id moment
+    → WasDue (manager_at c.network i).state.identity.guid
+    (commitments (written_of i c.written)) stream number id moment
 
 -- where a message stood that a line says expired
 abbrev pub expiry_told : Line → Option Position
-expiry_told (line.Expired stream number id moment) = Some (record { sequence = stream.sequence; number = number })
+expiry_told (line.Expired stream number id moment) =
+    Some (record { sequence = stream.sequence; number = number })
 expiry_told _ = None
 
 -- those of all lines, in order
 abbrev pub expiries_told : List Line → List Position
 expiries_told ledger = filter_map expiry_told ledger
 
--- What a manager offered never expires later: of the sequence of a mark only what stands above it does.
+-- What a manager offered never expires later: of the sequence of a mark only what
+-- stands above it does.
 abbrev pub AreOffersKept : Course → Type 0
-AreOffersKept c = (i : ℕ) (before behind : List Written) (w : Written) (marks : List Mark) (mark : Mark)
+AreOffersKept c =
+    (i : ℕ) (before behind : List Written) (w : Written) (marks : List Mark) (mark : Mark)
     → written_of i c.written ≡ before ++ w ∷ behind → w.entry ≡ entry.Offered marks → In mark marks
-    → (stream : Stream) (number : ℕ) (id : MessageId) (moment : ℕ) → In (line.Expired stream number id moment) (lines_written behind)
+    → (stream : Stream) (number : ℕ) (id : MessageId) (moment : ℕ)
+    → In (line.Expired stream number id moment) (lines_written behind)
     → stream.sequence.ordinal ≡ mark.ordinal → mark.number < number
 
 -- What was sent of a stream never expires at its source.
 abbrev pub AreSentKept : Course → Type 0
-AreSentKept c = (i : ℕ) (p : UserPacket) (tx : TxHead) → In (packet.User p) c.sent → p.tx ≡ Some tx → p.message.id.qm ≡ (manager_at c.network i).state.identity.guid
+AreSentKept c = (i : ℕ) (p : UserPacket) (tx : TxHead) → In (packet.User p) c.sent → p.tx ≡ Some tx
+    → p.message.id.qm ≡ (manager_at c.network i).state.identity.guid
     → In (position_of tx) (expiries_told (lines_written (written_of i c.written))) → ⊥
 
 -- Nor does what was decided.
 abbrev pub AreDecidedKept : Course → Type 0
-AreDecidedKept c = (i j : ℕ) (channel : Channel) (p : Position) → (manager_at c.network i).state.identity.guid ≡ channel.source → In p (decisions channel (written_of j c.written))
+AreDecidedKept c = (i j : ℕ) (channel : Channel) (p : Position)
+    → (manager_at c.network i).state.identity.guid ≡ channel.source
+    → In p (decisions channel (written_of j c.written))
     → In p (expiries_told (lines_written (written_of i c.written))) → ⊥

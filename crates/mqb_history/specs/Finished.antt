@@ -8,7 +8,8 @@ use Rattle.mqb_model.specs.state.State.{State}
 use Rattle.mqb_orders.specs.Rows.{Row}
 use Rattle.mqb_orders.specs.declared.kept.Kept.{Kept}
 
--- The row leads to the manager from which an acknowledgement came, and keeps a message that this names and that was offered.
+-- The row leads to the manager from which an acknowledgement came, and keeps a message that this
+-- names and that was offered.
 pub record MayBeFinished (s : State) (m : Message) (row : Row) : Type 0 where
   pub leads : peer_known s m.id.qm ≡ Some row.peer
   pub kept : Kept

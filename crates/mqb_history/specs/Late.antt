@@ -16,7 +16,8 @@ use Rattle.mqb_history.specs.Committed.{commitments}
 use Rattle.mqb_history.specs.Decided.{written_of}
 use Rattle.mqb_history.specs.Told.{joined_by}
 
--- A packet was sent at a moment at which its message was due, which its sender had committed to a stream under a number.
+-- A packet was sent at a moment at which its message was due, which its sender had committed to a
+-- stream under a number.
 pub record WasSentLate (c : Course) (stream : Stream) (number : ℕ) (id : MessageId) : Type 0 where
   pub index : ℕ
   pub note : Note
@@ -26,13 +27,15 @@ pub record WasSentLate (c : Course) (stream : Stream) (number : ℕ) (id : Messa
   pub names : content.message.id ≡ id
   pub commitment : Commitment
   pub committed : In commitment (commitments (written_of note.sender c.written))
-  pub joined : joined_by (manager_at c.network note.sender).state.identity.guid commitment ≡ record { stream = stream; number = number; id = id }
+  pub joined : joined_by (manager_at c.network note.sender).state.identity.guid commitment
+      ≡ record { stream = stream; number = number; id = id }
   pub due : IsTrue (due commitment.message note.moment)
 
 -- A message that is refused because its time to reach its queue was over was sent so by its source.
 abbrev pub AreRefusedLate : Course → Type 0
 AreRefusedLate c = (stream : Stream) (number : ℕ) (id : MessageId)
-    → In (line.Refused stream number REACH_TIMEOUT id) (lines_written c.written) → WasSentLate c stream number id
+    → In (line.Refused stream number REACH_TIMEOUT id) (lines_written c.written)
+    → WasSentLate c stream number id
 
 abbrev pub AlwaysRefusedLate : Type 0
 AlwaysRefusedLate = Always AreRefusedLate

@@ -4,7 +4,8 @@ use Rattle.mqb_base.specs.declared.ids.Identity.{Identity}
 use Rattle.mqb_network.specs.Doubts.{settled}
 use Rattle.mqb_network.specs.Laws.{AreApart}
 use Rattle.mqb_network.specs.Runs.{IsRun, Move, after_run}
-use Rattle.mqb_history.specs.Acked.{AreAcknowledgedTruly, AreAcknowledgingTruly, AreWaitingUntilDecided}
+use Rattle.mqb_history.specs.Acked.{AreAcknowledgedTruly, AreAcknowledgingTruly}
+use Rattle.mqb_history.specs.Acked.{AreWaitingUntilDecided}
 use Rattle.mqb_history.specs.Histories.{HasHistory, IsHistory, course_of}
 use Rattle.mqb_history.specs.Changes.{Change}
 use Rattle.mqb_history.specs.Carried.{AreCarriedTruly, AreDecidedTruly}
@@ -14,7 +15,8 @@ use Rattle.mqb_history.specs.Told.{AreCommitmentsTold, decisions_told}
 use Rattle.mqb_history.specs.Orderly.{IsOrderly}
 use Rattle.mqb_history.specs.Skipped.{AreUnskipped}
 use Rattle.mqb_history.specs.Waiting.{AreWaiting}
-use Rattle.mqb_history.specs.Expired.{AreDecidedKept, AreExpiredDuly, AreOffersKept, AreSentKept, MayExpire}
+use Rattle.mqb_history.specs.Expired.{AreDecidedKept, AreExpiredDuly, AreOffersKept}
+use Rattle.mqb_history.specs.Expired.{AreSentKept, MayExpire}
 use Rattle.mqb_history.specs.Offered.{AreUndecided}
 use Rattle.mqb_history.specs.Led.{AreDecidedByOne, AreDecidedWhereLed}
 use Rattle.mqb_history.specs.Begun.{AreBegunInOrder, AreDecidedAcross}
@@ -46,12 +48,15 @@ use Rattle.mqb_packet.specs.declared.packet.UserPacket.{UserPacket}
 
 -- Every course with a history is orderly.
 abbrev pub HistoriesAreOrderly : Type 0
-HistoriesAreOrderly = (known : List Identity) (xs : List Change) → AreApart known → IsHistory known xs
+HistoriesAreOrderly =
+    (known : List Identity) (xs : List Change) → AreApart known → IsHistory known xs
     → IsOrderly known (course_of known xs)
 
--- Each point of each run has a history, and so has the course with each record in doubt applied or left out.
+-- Each point of each run has a history, and so has the course with each record in doubt
+-- applied or left out.
 abbrev pub RunsHaveHistories : Type 0
-RunsHaveHistories = (known : List Identity) (ms : List Move) → AreApart known → IsRun known ms → (kept : ℕ → Bool)
+RunsHaveHistories =
+    (known : List Identity) (ms : List Move) → AreApart known → IsRun known ms → (kept : ℕ → Bool)
     → HasHistory known (after_run known ms) × HasHistory known (settled kept (after_run known ms))
 
 -- Messages are decided in order, each once.
@@ -72,7 +77,8 @@ AlwaysDecidedTruly = Always AreDecidedTruly
 
 -- The lines of records tell what they decide.
 abbrev pub LinesTellDecisions : Type 0
-LinesTellDecisions = (channel : Channel) (written : List Written) → decisions_told channel (lines_written written) ≡ decisions channel written
+LinesTellDecisions = (channel : Channel) (written : List Written)
+    → decisions_told channel (lines_written written) ≡ decisions channel written
 
 -- The lines of a manager's records tell what it commits.
 abbrev pub AlwaysToldCommitments : Type 0
@@ -86,15 +92,19 @@ DownStays = (c : Course) (x : Change) → IsTrue (may_change c x) → StaysDown 
 abbrev pub FailuresAreSettled : Type 0
 FailuresAreSettled = (c : Course) (i : ℕ) → i < length c.network.managers → IsSettled c i
 
--- A decision's line is the last of its record: it puts the message, or refuses it for the reason that there is in the state in which it was heard.
+-- A decision's line is the last of its record: it puts the message, or refuses it for the reason
+-- that there is in the state in which it was heard.
 abbrev pub DecisionsHaveReasons : Type 0
-DecisionsHaveReasons = (s : State) (now : ℕ) (numbers : List ℕ) (p : UserPacket) (tx : TxHead) → p.tx ≡ Some tx
+DecisionsHaveReasons =
+    (s : State) (now : ℕ) (numbers : List ℕ) (p : UserPacket) (tx : TxHead) → p.tx ≡ Some tx
     → (released : List Line)
-    × (lines_of s (entry.Arrived now numbers (entry.Decided p)) ≡ released ++ decided_line p.message tx (refusal_of s p) ∷ [])
+    × (lines_of s (entry.Arrived now numbers (entry.Decided p))
+    ≡ released ++ decided_line p.message tx (refusal_of s p) ∷ [])
 
 -- A message expires out of a row of the state that its record met: it was not offered, and was due.
 abbrev pub ExpiriesHaveReasons : Type 0
-ExpiriesHaveReasons = (s : State) (r : Record) (stream : Stream) (number : ℕ) (id : MessageId) (moment : ℕ)
+ExpiriesHaveReasons =
+    (s : State) (r : Record) (stream : Stream) (number : ℕ) (id : MessageId) (moment : ℕ)
     → In (line.Expired stream number id moment) (lines_of s r) → MayExpire s stream number id moment
 
 -- What expires was committed by its manager, and was due.
@@ -145,7 +155,8 @@ AlwaysDecidedWhereLed = Always AreDecidedWhereLed
 abbrev pub AlwaysDecidedByOne : Type 0
 AlwaysDecidedByOne = Always AreDecidedByOne
 
--- Each channel has one stream world, which a run of the stream world reaches, which is shown, which keeps the invariant and is exactly once. The three laws behind it follow.
+-- Each channel has one stream world, which a run of the stream world reaches, which is shown, which
+-- keeps the invariant and is exactly once. The three laws behind it follow.
 abbrev pub AlwaysOneStreamWorld : Type 0
 AlwaysOneStreamWorld = Always HaveOneStreamWorld
 
@@ -163,7 +174,8 @@ AlwaysStreamInvariant = Always HaveStreamInvariants
 
 -- The parts of the invariant hold of the course.
 abbrev pub AlwaysMachineInvariant : Type 0
-AlwaysMachineInvariant = (known : List Identity) (ms : List Move) → AreApart known → IsRun known ms → (kept : ℕ → Bool)
+AlwaysMachineInvariant =
+    (known : List Identity) (ms : List Move) → AreApart known → IsRun known ms → (kept : ℕ → Bool)
     → MachineInvariant known (settled kept (after_run known ms))
 
 -- What was sent or decided never expires.

@@ -16,7 +16,8 @@ use Rattle.mqb_orders.specs.Rows.{Row}
 use Rattle.mqb_history.specs.Committed.{commitments_in}
 
 -- In a state the name of a queue leads to a peer, which is this manager of the network.
-pub record LeadsFrom (s : State) (n : Network) (destination : QueueName) (manager : ℕ) : Type 0 where
+pub record LeadsFrom (s : State) (n : Network) (destination : QueueName)
+    (manager : ℕ) : Type 0 where
   pub peer : ℕ
   pub target : resolved s destination ≡ AtPeer peer
   pub identity : slice_get s.peers peer ≡ Some (manager_at n manager).state.identity
@@ -30,7 +31,8 @@ pub record IsLed (c : Course) (w : Written) (destination : QueueName) : Type 0 w
 
 -- The destination of each message that a record commits does.
 abbrev pub AreCommitmentsLed : Course → Type 0
-AreCommitmentsLed c = (w : Written) (m : Commitment) → In w c.written → In m (commitments_in w.before w.entry) → IsLed c w m.message.destination
+AreCommitmentsLed c = (w : Written) (m : Commitment) → In w c.written
+    → In m (commitments_in w.before w.entry) → IsLed c w m.message.destination
 
 -- A stream goes from one manager of the network to another.
 pub record IsBetween (n : Network) (stream : Stream) : Type 0 where
@@ -42,11 +44,13 @@ pub record IsBetween (n : Network) (stream : Stream) : Type 0 where
 
 -- Each stream of which the ledger has a Committed line does.
 abbrev pub AreStreamsLed : Course → Type 0
-AreStreamsLed c = (stream : Stream) (number : ℕ) (id : MessageId) → In (line.Committed stream number id) c.network.ledger → IsBetween c.network stream
+AreStreamsLed c = (stream : Stream) (number : ℕ) (id : MessageId)
+    → In (line.Committed stream number id) c.network.ledger → IsBetween c.network stream
 
 -- Each outgoing row of a manager leads to the peer to which its destination does.
 abbrev pub AreRowsLed : Course → Type 0
-AreRowsLed c = (i : ℕ) (row : Row) → In row (manager_at c.network i).state.outs → resolved (manager_at c.network i).state row.destination ≡ AtPeer row.peer
+AreRowsLed c = (i : ℕ) (row : Row) → In row (manager_at c.network i).state.outs
+    → resolved (manager_at c.network i).state row.destination ≡ AtPeer row.peer
 
 -- They do at each point of each run.
 abbrev pub RowsAreLed : Type 0

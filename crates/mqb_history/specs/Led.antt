@@ -20,9 +20,14 @@ pub record IsLedTo (c : Course) (i : ℕ) (m : Commitment) (j : ℕ) : Type 0 wh
 -- What a manager committed is decided only where its row leads.
 abbrev pub AreDecidedWhereLed : Course → Type 0
 AreDecidedWhereLed c = (i j : ℕ) (m : Commitment) → In m (commitments (written_of i c.written))
-    → In m.position (decisions (record { source = (manager_at c.network i).state.identity.guid; destination = m.message.destination }) (written_of j c.written))
+    → In m.position (decisions (record {
+      source = (manager_at c.network i).state.identity.guid;
+      destination = m.message.destination;
+    }) (written_of j c.written))
     → IsLedTo c i m j
 
 -- No two managers decide anything of one channel.
 abbrev pub AreDecidedByOne : Course → Type 0
-AreDecidedByOne c = (j k : ℕ) (channel : Channel) (p q : Position) → In p (decisions channel (written_of j c.written)) → In q (decisions channel (written_of k c.written)) → j ≡ k
+AreDecidedByOne c = (j k : ℕ) (channel : Channel) (p q : Position)
+    → In p (decisions channel (written_of j c.written))
+    → In q (decisions channel (written_of k c.written)) → j ≡ k

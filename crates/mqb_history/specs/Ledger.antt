@@ -1,6 +1,7 @@
 -- What the ledger says of streams, line by line.
 use Rattle.std.specs.List.{range_with_len}
-use Rattle.std.specs.Prelude.{◌++◌, ◌<◌, ◌∷◌, ◌≡◌, ◌≤◌, ◌⊎◌, List, None, Option, filter_map, length, ℕ}
+use Rattle.std.specs.Prelude.{◌++◌, ◌<◌, ◌∷◌, ◌≡◌, ◌≤◌, ◌⊎◌, List, None, Option, filter_map}
+use Rattle.std.specs.Prelude.{length, ℕ}
 use Rattle.mqb_base.specs.declared.class.Class.{Class}
 use Rattle.mqb_base.specs.declared.ids.MessageId.{MessageId}
 use Rattle.mqb_base.specs.declared.ledger.Line.{Line}
@@ -38,20 +39,26 @@ pub record AreExpiring (s : Stream) (n : ℕ) (lines : List Line) : Type 0 where
 
 -- What was decided stands before in its stream as committed, with the same number and identifier.
 abbrev pub IsCommittedBefore : List Line → Type 0
-IsCommittedBefore ledger = (before behind : List Line) (l : Line) (s : Stream) (n : ℕ) (id : MessageId)
+IsCommittedBefore ledger =
+    (before behind : List Line) (l : Line) (s : Stream) (n : ℕ) (id : MessageId)
     → ledger ≡ before ++ l ∷ behind → Decides s n id l → In (line.Committed s n id) before
 
 -- And each number below it was decided before, or expired before.
 abbrev pub IsNoneSkipped : List Line → Type 0
-IsNoneSkipped ledger = (before behind : List Line) (l : Line) (s : Stream) (n m : ℕ) (id : MessageId)
-    → ledger ≡ before ++ l ∷ behind → Decides s n id l → 0 < m → m < n → AreDeciding s m before ⊎ AreExpiring s m before
+IsNoneSkipped ledger =
+    (before behind : List Line) (l : Line) (s : Stream) (n m : ℕ) (id : MessageId)
+    → ledger ≡ before ++ l ∷ behind → Decides s n id l → 0 < m → m < n
+    → AreDeciding s m before ⊎ AreExpiring s m before
 
 -- The ledger tells of each stream that it is exactly once.
 pub record IsExactlyOnceTold (ledger : List Line) : Type 0 where
   -- its messages are committed as 1, 2, and so on
-  pub numbered : (s : Stream) → filter_map (number_committed s) ledger ≡ range_with_len 1 (length (filter_map (number_committed s) ledger))
-  -- those to one destination are committed in the order of their positions: one sequence after another
-  pub committed_in_order : (channel : Channel) → RiseStrictly (filter_map (commitment_placed channel) ledger)
+  pub numbered : (s : Stream) → filter_map (number_committed s) ledger
+      ≡ range_with_len 1 (length (filter_map (number_committed s) ledger))
+  -- those to one destination are committed in the order of their positions: one
+  -- sequence after another
+  pub committed_in_order : (channel : Channel)
+      → RiseStrictly (filter_map (commitment_placed channel) ledger)
   -- no two messages that were committed, or put where they were sent, have one identifier
   pub apart : (id : MessageId) → times sent_in id ledger ≤ 1
   -- those of a source and a destination are decided in order, each once, whoever decides them

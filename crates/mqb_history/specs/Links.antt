@@ -12,12 +12,14 @@ use Rattle.mqb_orders.specs.Streams.{before}
 -- Each outgoing row keeps its stream, as the ledger tells it.
 abbrev pub AreStreamsKept : Course → Type 0
 AreStreamsKept c = (i : ℕ) (row : Row) → In row (manager_at c.network i).state.outs
-    → KeepsStream (stream_of (manager_at c.network i).state row) (lines_written c.written) row.acked row.kept
+    → KeepsStream (stream_of (manager_at c.network i).state row)
+    (lines_written c.written) row.acked row.kept
 
--- So the link of a number above the acknowledged one is the greatest number of the stream below it that was committed
--- and did not expire, or 0.
+-- So the link of a number above the acknowledged one is the greatest number of the stream below it
+-- that was committed and did not expire, or 0.
 abbrev pub AreLinksBefore : Course → Type 0
-AreLinksBefore c = (i : ℕ) (row : Row) (n : ℕ) → In row (manager_at c.network i).state.outs → row.acked < n
+AreLinksBefore c =
+    (i : ℕ) (row : Row) (n : ℕ) → In row (manager_at c.network i).state.outs → row.acked < n
     → link_before row.acked row.kept n
     ≡ before (stream_of (manager_at c.network i).state row) n (lines_written c.written)
 

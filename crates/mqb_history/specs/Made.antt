@@ -1,6 +1,7 @@
 -- What is known of a record that a call made, as long as its manager's rows and numbers stay.
 use Rattle.std.specs.List.{AllByRecursion, enumerate_from}
-use Rattle.std.specs.Prelude.{[], ◌<◌, ◌+◌, ◌∷◌, ◌≡◌, ◌≤◌, List, None, Option, Some, filter_map, length, slice_get, true, ℕ}
+use Rattle.std.specs.Prelude.{[], ◌<◌, ◌+◌, ◌∷◌, ◌≡◌, ◌≤◌, List, None, Option, Some, filter_map}
+use Rattle.std.specs.Prelude.{length, slice_get, true, ℕ}
 use Rattle.mqb_base.specs.declared.heads.TxHead.{TxHead}
 use Rattle.mqb_base.specs.declared.ids.Guid.{Guid}
 use Rattle.mqb_base.specs.declared.message.Message.{Message}
@@ -29,7 +30,8 @@ use Rattle.mqb_packet.specs.declared.packet.UserPacket.{UserPacket}
 -- messages bear a manager's numbers, one after another
 abbrev pub AreNumbered : Guid → ℕ → List Message → Type 0
 AreNumbered own number [] = Unit {0}
-AreNumbered own number (m ∷ ms) = (m.id ≡ record { qm = own; number = number }) × AreNumbered own (number + 1) ms
+AreNumbered own number (m ∷ ms) =
+    (m.id ≡ record { qm = own; number = number }) × AreNumbered own (number + 1) ms
 
 -- the incoming row to which a message belongs
 abbrev pub row_heard : List InRow → Message → Option InRow
@@ -41,7 +43,8 @@ pub record IsNext (ins : List InRow) (p : UserPacket) : Type 0 where
   pub there : p.tx ≡ Some head
   pub next : verdict_of (row_heard ins p.message) head ≡ Next
 
--- a message goes from a row: it is kept there above the acknowledged number, under the header that names what stands before it, and the row is open
+-- a message goes from a row: it is kept there above the acknowledged number, under the header that
+-- names what stands before it, and the row is open
 pub record IsOfOpenRow (outs : List Row) (index number : ℕ) (c : Candidate) : Type 0 where
   pub row : Row
   pub there : slice_get outs index ≡ Some row
@@ -60,7 +63,8 @@ IsOfRows outs c _ = c.tx ≡ None
 
 -- marks are those of candidates that a pump sends from these rows
 abbrev pub AreSent : List Row → List Mark → Type 0
-AreSent outs marks = (cs : List Candidate) × (marks ≡ filter_map (mark_for cs) (enumerate_from 0 outs))
+AreSent outs marks =
+    (cs : List Candidate) × (marks ≡ filter_map (mark_for cs) (enumerate_from 0 outs))
     × AllByRecursion (λ c. IsOfRows outs c c.origin) cs
 
 -- messages take the next numbers, of which so many are left
@@ -74,7 +78,8 @@ pub record IsPlainNext (own : Guid) (next : ℕ) (m : Message) : Type 0 where
   pub left : next ≤ MAX_NUMBER
   pub ordinary : is_ordinary m ≡ true
 
--- A record adds no peer, the messages that it sends bear the next numbers, what is offered is sent, and what is decided is next.
+-- A record adds no peer, the messages that it sends bear the next numbers, what is offered is sent,
+-- and what is decided is next.
 abbrev pub IsMadeBy : Guid → List Row → List InRow → ℕ → Record → Type 0
 IsMadeBy own outs ins next (entry.Peer peer) = ⊥
 IsMadeBy own outs ins next (entry.Commit now ops) = TakeNumbers own next (sends_of ops)

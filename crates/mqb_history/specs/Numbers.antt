@@ -40,12 +40,15 @@ AreLinesNumbered c = (id : MessageId) → In id (told_by named_in c) → HasNumb
 
 -- and with each message that a manager has, or that went in a packet, unless it is express
 abbrev pub AreMessagesNumbered : Course → Type 0
-AreMessagesNumbered c = (m : Message) → In m (noticed c) → IsFalse (is_express m.delivery) → HasNumber c m.id
+AreMessagesNumbered c =
+    (m : Message) → In m (noticed c) → IsFalse (is_express m.delivery) → HasNumber c m.id
 
 -- So it is with the message of which a notice tells, unless that is express.
 abbrev pub AreCorrelationsNumbered : Course → Type 0
-AreCorrelationsNumbered c = (m : Message) → In m (noticed c) → IsFalse (is_ordinary m) → IsFalse (is_express m.delivery) → HasNumber c m.correlation
+AreCorrelationsNumbered c = (m : Message) → In m (noticed c) → IsFalse (is_ordinary m)
+    → IsFalse (is_express m.delivery) → HasNumber c m.correlation
 
 -- And no notice bears the identifier of a message that joined a stream.
 abbrev pub AreNoticesApart : Course → Type 0
-AreNoticesApart c = (m : Message) → In m (noticed c) → IsFalse (is_ordinary m) → In m.id (told_by committed_in c) → ⊥
+AreNoticesApart c = (m : Message) → In m (noticed c) → IsFalse (is_ordinary m)
+    → In m.id (told_by committed_in c) → ⊥

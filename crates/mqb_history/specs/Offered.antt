@@ -10,7 +10,8 @@ use Rattle.mqb_network.specs.Network.{manager_at}
 use Rattle.mqb_history.specs.Decided.{decisions, written_of}
 use Rattle.mqb_history.specs.Expired.{expiries_told}
 
--- A manager offered a position: a mark of its sequence stands there or above, and it had not expired before.
+-- A manager offered a position: a mark of its sequence stands there or above, and it
+-- had not expired before.
 pub record IsOffered (written : List Written) (p : Position) : Type 0 where
   pub before : List Written
   pub offering : Written
@@ -26,5 +27,7 @@ pub record IsOffered (written : List Written) (p : Position) : Type 0 where
 
 -- What expires at the source of a channel is decided nowhere, before or later.
 abbrev pub AreUndecided : Course → Type 0
-AreUndecided c = (i j : ℕ) (channel : Channel) (p : Position) → (manager_at c.network i).state.identity.guid ≡ channel.source
-    → In p (expiries_told (lines_written (written_of i c.written))) → In p (decisions channel (written_of j c.written)) → ⊥
+AreUndecided c = (i j : ℕ) (channel : Channel) (p : Position)
+    → (manager_at c.network i).state.identity.guid ≡ channel.source
+    → In p (expiries_told (lines_written (written_of i c.written)))
+    → In p (decisions channel (written_of j c.written)) → ⊥

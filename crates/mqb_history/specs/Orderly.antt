@@ -1,6 +1,7 @@
 -- What holds of every course: connections, sessions, notes and identities go together.
 use Rattle.std.specs.List.{AllByRecursion}
-use Rattle.std.specs.Prelude.{[], ◌==◌, ◌∷◌, ◌≡◌, ◌≤◌, Bool, IfSome, List, false, is_some, length, slice_get, true, ℕ}
+use Rattle.std.specs.Prelude.{[], ◌==◌, ◌∷◌, ◌≡◌, ◌≤◌, Bool, IfSome, List, false, is_some, length}
+use Rattle.std.specs.Prelude.{slice_get, true, ℕ}
 use Rattle.mqb_base.specs.declared.ids.Identity.{Identity}
 use Rattle.mqb_model.specs.managers.Manager.{Manager, doubt_of, is_down}
 use Rattle.mqb_model.specs.state.State.{State}
@@ -15,7 +16,8 @@ pub record IsItself (known : List Identity) (own : Identity) (s : State) : Type 
 
 -- each manager is
 abbrev pub AreThemselves : List Identity → Network → Type 0
-AreThemselves known n = (i : ℕ) → IfSome (slice_get known i) (λ own. IsItself known own (manager_at n i).state)
+AreThemselves known n =
+    (i : ℕ) → IfSome (slice_get known i) (λ own. IsItself known own (manager_at n i).state)
 
 -- A manager has a session exactly where it is connected, and is up then.
 pub record IsLinkedRightly (connected : Bool) (m : Manager) : Type 0 where
@@ -42,7 +44,8 @@ pub record IsOrderly (known : List Identity) (c : Course) : Type 0 where
   pub count : length c.network.managers ≡ length known
   pub themselves : AreThemselves known c.network
   -- a record in doubt is one that a call made
-  pub doubts : (i : ℕ) → IfSome (doubt_of (manager_at c.network i).condition) (IsMade (manager_at c.network i).state)
+  pub doubts : (i : ℕ)
+      → IfSome (doubt_of (manager_at c.network i).condition) (IsMade (manager_at c.network i).state)
   -- a manager has at most one connection, and each connection a number of its own
   pub disjoint : AreAllDisjoint c.network.connections
   pub numbered : AllByRecursion (λ d. d.number ≤ c.network.connected) c.network.connections

@@ -22,5 +22,7 @@ HasPumped ms i moment = (m : Move) × In m ms × PumpsAt i moment m.event
 
 -- What is noted of a packet is so: its sender pumped at its moment in an event of the run.
 abbrev pub NotesTellPumps : Type 0
-NotesTellPumps = (known : List Identity) (ms : List Move) → AreApart known → IsRun known ms → (kept : ℕ → Bool)
-    → (note : Note) → In note (settled kept (after_run known ms)).network.notes → HasPumped ms note.sender note.moment
+NotesTellPumps =
+    (known : List Identity) (ms : List Move) → AreApart known → IsRun known ms → (kept : ℕ → Bool)
+    → (note : Note) → In note (settled kept (after_run known ms)).network.notes
+    → HasPumped ms note.sender note.moment

@@ -21,7 +21,8 @@ use Rattle.mqb_history.specs.Committed.{commitments}
 use Rattle.mqb_history.specs.Decided.{written_of}
 use Rattle.mqb_history.specs.Told.{Joined, joined_by}
 
--- From one state to another a message joined the queue to which its destination leads, at the end of the durable messages.
+-- From one state to another a message joined the queue to which its destination leads, at the end
+-- of the durable messages.
 pub record JoinsQueue (s t : State) (m : Message) : Type 0 where
   pub queue : ℕ
   pub leads : resolved s m.destination ≡ Here (Some queue)
@@ -29,18 +30,23 @@ pub record JoinsQueue (s t : State) (m : Message) : Type 0 where
   pub before : lists_at s.places (place.Queue queue) ≡ Some lists
   pub after : lists_at t.places (place.Queue queue) ≡ Some (put lane.Durable m lists)
 
--- What a record puts was committed by the source of its stream before. It is the same in every field but the time to reach its queue.
-pub record PutsCommitted (c : Course) (before : List Written) (w : Written) (told : Joined) : Type 0 where
+-- What a record puts was committed by the source of its stream before. It is the same in every
+-- field but the time to reach its queue.
+pub record PutsCommitted (c : Course) (before : List Written) (w : Written)
+    (told : Joined) : Type 0 where
   pub source : ℕ
   pub commitment : Commitment
   pub there : In commitment (commitments (written_of source before))
   pub joined : joined_by (manager_at c.network source).state.identity.guid commitment ≡ told
   pub reach : ℕ
-  pub joins : JoinsQueue w.before (apply w.before w.entry) (record commitment.message { reach = reach })
+  pub joins :
+      JoinsQueue w.before (apply w.before w.entry) (record commitment.message { reach = reach })
 
--- Each Put line tells of a message that was committed, and that its record brought to the end of a queue.
+-- Each Put line tells of a message that was committed, and that its record brought
+-- to the end of a queue.
 abbrev pub ArePutTruly : Course → Type 0
-ArePutTruly c = (before behind : List Written) (w : Written) (stream : Stream) (number : ℕ) (id : MessageId)
+ArePutTruly c =
+    (before behind : List Written) (w : Written) (stream : Stream) (number : ℕ) (id : MessageId)
     → c.written ≡ before ++ w ∷ behind → In (line.Put stream number id) (lines_of w.before w.entry)
     → PutsCommitted c before w (record { stream = stream; number = number; id = id })
 

@@ -29,7 +29,8 @@ taken_in _ = None
 
 -- A notice that a message was not received names one that was purged, or swept, or an express one.
 abbrev pub AreMissesTrue : Course → Type 0
-AreMissesTrue c = (m : Message) (id : MessageId) → In m (noticed c) → Misses id m → id.number < FIRST_EXPRESS
+AreMissesTrue c =
+    (m : Message) (id : MessageId) → In m (noticed c) → Misses id m → id.number < FIRST_EXPRESS
     → In id (told_by missed_in c)
 
 -- None of those that were sent in a transaction, or put where they were sent, is express.
@@ -46,8 +47,9 @@ abbrev pub IsNoMissReceived : Course → Type 0
 IsNoMissReceived c = (m : Message) (id : MessageId) → In m (noticed c) → Misses id m
     → In id (told_by sent_in c) → In id (told_by taken_in c) → ⊥
 
--- What a notice of a message that was not received says is so: it left its queue by a purge or a sweep. And where the message was sent in a
--- transaction, or put where it was sent, it was never taken.
+-- What a notice of a message that was not received says is so: it left its queue by a
+-- purge or a sweep. And where the message was sent in a transaction, or put where it was
+-- sent, it was never taken.
 pub record IsReceivedTruly (c : Course) : Type 0 where
   pub misses : AreMissesTrue c
   pub durable : AreSentDurable c
@@ -58,9 +60,11 @@ pub record IsReceivedTruly (c : Course) : Type 0 where
 abbrev pub AlwaysReceivedTruly : Type 0
 AlwaysReceivedTruly = Always IsReceivedTruly
 
--- So do those of plain messages that went in packets, where such a message came to a queue once: the message that is named was never taken.
+-- So do those of plain messages that went in packets, where such a message came to a queue once:
+-- the message that is named was never taken.
 abbrev pub IsPlainReceivedTruly : Course → Type 0
-IsPlainReceivedTruly c = (m : Message) (id : MessageId) → In m (noticed c) → Misses id m → id.number < FIRST_EXPRESS
+IsPlainReceivedTruly c =
+    (m : Message) (id : MessageId) → In m (noticed c) → Misses id m → id.number < FIRST_EXPRESS
     → times came_in id (lines_written c.written) ≤ 1 → In id (told_by taken_in c) → ⊥
 
 abbrev pub AlwaysReceivedTrulyOfPlain : Type 0

@@ -29,9 +29,11 @@ pub record IsOneOf (sends : List Message) (m : Message) : Type 0 where
   pub inside : In send sends
   pub same : m ≡ record send { reach = m.reach }
 
--- Each ordinary message that a manager has, or that went in a packet, is one that a record sent, unless it is express.
+-- Each ordinary message that a manager has, or that went in a packet, is one that a record sent,
+-- unless it is express.
 abbrev pub AreAsSent : Course → Type 0
-AreAsSent c = (m : Message) → In m (noticed c) → IsTrue (is_ordinary m) → IsFalse (is_express m.delivery)
+AreAsSent c =
+    (m : Message) → In m (noticed c) → IsTrue (is_ordinary m) → IsFalse (is_express m.delivery)
     → IsOneOf (all_sends c.written) m
 
 -- No two messages that were sent bear one identifier.
@@ -40,7 +42,8 @@ IsEachSentOnce c = (id : MessageId) → count_by (λ m. same_id id m.id) (all_se
 
 -- One that joined a stream is transactional wherever it is.
 abbrev pub AreCommittedTransactional : Course → Type 0
-AreCommittedTransactional c = (m : Message) → In m (noticed c) → IsTrue (is_ordinary m) → IsFalse (is_express m.delivery)
+AreCommittedTransactional c =
+    (m : Message) → In m (noticed c) → IsTrue (is_ordinary m) → IsFalse (is_express m.delivery)
     → In m.id (told_by committed_in c) → IsTrue (is_transactional m.delivery)
 
 -- What is there, and so whatever is taken, is what was sent under its identifier.

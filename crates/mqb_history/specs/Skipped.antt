@@ -15,8 +15,10 @@ pub record HasExpiredAt (c : Course) (source : Guid) (p : Position) : Type 0 whe
   pub own : (manager_at c.network manager).state.identity.guid ≡ source
   pub told : In p (expiries_told (lines_written (written_of manager c.written)))
 
--- Whatever stands before a decided message in its sequence was decided too, or it expired at the source.
+-- Whatever stands before a decided message in its sequence was decided too, or it
+-- expired at the source.
 abbrev pub AreUnskipped : Course → Type 0
-AreUnskipped c = (j : ℕ) (channel : Channel) (p : Position) (n : ℕ) → In p (decisions channel (written_of j c.written)) → 0 < n → n < p.number
+AreUnskipped c = (j : ℕ) (channel : Channel) (p : Position) (n : ℕ)
+    → In p (decisions channel (written_of j c.written)) → 0 < n → n < p.number
     → In (record { sequence = p.sequence; number = n }) (decisions channel (written_of j c.written))
     ⊎ HasExpiredAt c channel.source (record { sequence = p.sequence; number = n })

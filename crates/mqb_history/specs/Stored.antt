@@ -33,7 +33,8 @@ pub record IsStoredIn (written : List Written) (id : MessageId) : Type 0 where
 
 -- in this state the peer at an index is this manager
 abbrev pub IsPeerAt : Course → State → ℕ → ℕ → Type 0
-IsPeerAt c s k i = (peer : Identity) × (slice_get s.peers k ≡ Some peer) × (peer.guid ≡ (manager_at c.network i).state.identity.guid)
+IsPeerAt c s k i = (peer : Identity) × (slice_get s.peers k ≡ Some peer)
+    × (peer.guid ≡ (manager_at c.network i).state.identity.guid)
 
 -- a list of plain messages has the one of a number
 pub record WaitsIn (s : State) (number : ℕ) : Type 0 where
@@ -43,21 +44,28 @@ pub record WaitsIn (s : State) (number : ℕ) : Type 0 where
   pub has : IsTrue (has_recoverable s number lists)
 
 -- It waits, and was stored by the peer for which it does: whatever list has it.
-pub record IsStoredByPeer (c : Course) (written : List Written) (s : State) (number : ℕ) : Type 0 where
+pub record IsStoredByPeer (c : Course) (written : List Written) (s : State)
+    (number : ℕ) : Type 0 where
   pub waits : WaitsIn s number
   pub stored : IsStoredIn written (own_id s number)
-  pub peer : (k : ℕ) (waiting : PlainLists) → slice_get s.plain k ≡ Some waiting → IsTrue (has_recoverable s number waiting)
+  pub peer : (k : ℕ) (waiting : PlainLists) → slice_get s.plain k ≡ Some waiting
+      → IsTrue (has_recoverable s number waiting)
       → IsPeerAt c s k stored.storage.by
 
--- Each message that a record releases was stored by a record before, by the peer for which it waited.
+-- Each message that a record releases was stored by a record before, by the peer
+-- for which it waited.
 abbrev pub AreReleasedTruly : Course → Type 0
-AreReleasedTruly c = (before behind : List Written) (w : Written) (now : ℕ) (numbers : List ℕ) (part : Part) (number : ℕ)
-    → c.written ≡ before ++ w ∷ behind → w.entry ≡ entry.Arrived now numbers part → In number numbers
+AreReleasedTruly c = (before behind : List Written) (w : Written) (now : ℕ) (numbers : List ℕ)
+    (part : Part) (number : ℕ)
+    → c.written ≡ before ++ w ∷ behind → w.entry ≡ entry.Arrived now numbers part
+    → In number numbers
     → IsStoredByPeer c before w.before number
 
--- Each Released line of the records has a Stored or a Bounced line before it that names the same message.
+-- Each Released line of the records has a Stored or a Bounced line before it that
+-- names the same message.
 abbrev pub IsStorageKept : Course → Type 0
-IsStorageKept c = (before behind : List Line) (id : MessageId) → lines_written c.written ≡ before ++ line.Released id ∷ behind
+IsStorageKept c = (before behind : List Line) (id : MessageId)
+    → lines_written c.written ≡ before ++ line.Released id ∷ behind
     → TellStorage id before
 
 -- What is released was stored before: record by record, and line by line.

@@ -1,5 +1,6 @@
 -- What the lines of the ledger tell of streams.
-use Rattle.std.specs.Prelude.{◌&&◌, ◌≡◌, Bool, List, None, Option, Some, filter_map, if◌then◌else◌, map, ℕ}
+use Rattle.std.specs.Prelude.{◌&&◌, ◌≡◌, Bool, List, None, Option, Some, filter_map, if◌then◌else◌}
+use Rattle.std.specs.Prelude.{map, ℕ}
 use Rattle.mqb_base.specs.Same.{same_guid, same_name}
 use Rattle.mqb_base.specs.declared.ids.Guid.{Guid}
 use Rattle.mqb_base.specs.declared.ids.MessageId.{MessageId}
@@ -19,7 +20,8 @@ is_of c stream = same_guid stream.source c.source && same_name stream.destinatio
 
 -- where a message of a channel stands, by its stream and its number
 abbrev pub place_in : Channel → Stream → ℕ → Option Position
-place_in c stream number = if is_of c stream then Some (record { sequence = stream.sequence; number = number }) else None
+place_in c stream number =
+    if is_of c stream then Some (record { sequence = stream.sequence; number = number }) else None
 
 -- the message of a channel that a line puts or refuses
 abbrev pub decision_told : Channel → Line → Option Position
@@ -38,13 +40,15 @@ pub record Joined : Type 0 where
   pub id : MessageId
 
 abbrev pub commitment_told : Line → Option Joined
-commitment_told (line.Committed stream number id) = Some (record { stream = stream; number = number; id = id })
+commitment_told (line.Committed stream number id) =
+    Some (record { stream = stream; number = number; id = id })
 commitment_told _ = None
 
 -- the same of a commitment of a manager
 abbrev pub joined_by : Guid → Commitment → Joined
 joined_by own c = record {
-  stream = record { source = own; destination = c.message.destination; sequence = c.position.sequence };
+  stream =
+      record { source = own; destination = c.message.destination; sequence = c.position.sequence };
   number = c.position.number;
   id = c.message.id;
 }
@@ -52,4 +56,5 @@ joined_by own c = record {
 -- The ledger tells of each manager what it commits.
 abbrev pub AreCommitmentsTold : Course → Type 0
 AreCommitmentsTold c = (i : ℕ) → filter_map commitment_told (lines_written (written_of i c.written))
-    ≡ map (joined_by (manager_at c.network i).state.identity.guid) (commitments (written_of i c.written))
+    ≡ map (joined_by (manager_at c.network i).state.identity.guid)
+    (commitments (written_of i c.written))

@@ -1,5 +1,6 @@
 -- Where each message comes from: the event of a run that asked a manager to send it.
-use Rattle.std.specs.Prelude.{◌==◌, ◌≡◌, ◌⊎◌, Bool, IsFalse, IsTrue, List, Ok, Some, if◌then◌else◌, slice_get, ℕ}
+use Rattle.std.specs.Prelude.{◌==◌, ◌≡◌, ◌⊎◌, Bool, IsFalse, IsTrue, List, Ok, Some, if◌then◌else◌}
+use Rattle.std.specs.Prelude.{slice_get, ℕ}
 use Rattle.mqb_base.specs.declared.class.TheConstants.Class.{ORDER_ACKNOWLEDGEMENT}
 use Rattle.mqb_base.specs.declared.draft.Op.{Op}
 use Rattle.mqb_base.specs.declared.draft.Parts.{Parts}
@@ -24,7 +25,8 @@ use Rattle.mqb_network.specs.Runs.{IsRun, Move, after_run}
 use Rattle.mqb_history.specs.Asked.{IsAskedFor}
 use Rattle.mqb_history.specs.Truths.{noticed}
 
--- One of these moves asks a manager to send a message by itself, recoverable or express: at this moment, and with these parts.
+-- One of these moves asks a manager to send a message by itself, recoverable or express: at this
+-- moment, and with these parts.
 pub record IsAskedAlone (ms : List Move) (i : ℕ) (m : Message) : Type 0 where
   pub move : Move
   pub now : ℕ
@@ -32,10 +34,11 @@ pub record IsAskedAlone (ms : List Move) (i : ℕ) (m : Message) : Type 0 where
   pub parts : Parts
   pub there : In move ms
   pub asks : move.event ≡ event.Asks i (Send now recoverable parts)
-  pub message : m ≡ message_of m.id (if recoverable then Recoverable else Express) parts.priority now parts
+  pub message : m
+      ≡ message_of m.id (if recoverable then Recoverable else Express) parts.priority now parts
 
--- A message was asked for, in a transaction or by itself, of the manager whose GUID its identifier bears; it is the same in every field but the
--- time to reach its queue.
+-- A message was asked for, in a transaction or by itself, of the manager whose GUID its identifier
+-- bears; it is the same in every field but the time to reach its queue.
 pub record IsTraced (known : List Identity) (ms : List Move) (m : Message) : Type 0 where
   pub by : ℕ
   pub own : Identity
@@ -47,7 +50,8 @@ pub record IsTraced (known : List Identity) (ms : List Move) (m : Message) : Typ
 
 -- So was each message that there is, unless it is a notice.
 abbrev pub AreTraced : List Identity → List Move → Course → Type 0
-AreTraced known ms c = (m : Message) → In m (noticed c) → IsTrue (is_ordinary m) → IsTraced known ms m
+AreTraced known ms c =
+    (m : Message) → In m (noticed c) → IsTrue (is_ordinary m) → IsTraced known ms m
 
 -- a message acknowledges what a row owes
 abbrev pub is_order_acknowledgement : Message → Bool
@@ -66,7 +70,8 @@ AreNoticesTraced known ms c = (m : Message) → In m (noticed c) → IsFalse (is
 -- And so was each that a take answers.
 abbrev pub AreTakesTraced : List Identity → List Move → Course → Type 0
 AreTakesTraced known ms c = (i now : ℕ) (place : Place) (m : Message)
-    → (take_message (manager_at c.network i) place now).answer ≡ Ok m → IsTrue (is_ordinary m) → IsTraced known ms m
+    → (take_message (manager_at c.network i) place now).answer ≡ Ok m → IsTrue (is_ordinary m)
+    → IsTraced known ms m
 
 -- And each that a transaction takes.
 abbrev pub AreTakesOfCommitsTraced : List Identity → List Move → Course → Type 0
@@ -82,5 +87,6 @@ pub record AreAllTraced (known : List Identity) (ms : List Move) (c : Course) : 
 
 -- What is taken in a run is what its events ask to send.
 abbrev pub TakenIsAsked : Type 0
-TakenIsAsked = (known : List Identity) (ms : List Move) → AreApart known → IsRun known ms → (kept : ℕ → Bool)
+TakenIsAsked =
+    (known : List Identity) (ms : List Move) → AreApart known → IsRun known ms → (kept : ℕ → Bool)
     → AreAllTraced known ms (settled kept (after_run known ms))

@@ -1,5 +1,6 @@
 -- What notices say is true.
-use Rattle.std.specs.Prelude.{◌++◌, ◌≡◌, IsTrue, List, None, Option, Some, filter_map, flat_map, map}
+use Rattle.std.specs.Prelude.{◌++◌, ◌≡◌, IsTrue, List, None, Option, Some, filter_map}
+use Rattle.std.specs.Prelude.{flat_map, map}
 use Rattle.mqb_base.specs.Classes.{is_arrival_refusal}
 use Rattle.mqb_base.specs.declared.ids.MessageId.{MessageId}
 use Rattle.mqb_base.specs.declared.ledger.Line.{Line}
@@ -82,18 +83,20 @@ told_by kind c = filter_map kind (lines_written c.written)
 
 -- A refusal of a message that was committed names one that expired or was refused.
 abbrev pub AreRefusalsTrue : Course → Type 0
-AreRefusalsTrue c = (m : Message) (id : MessageId) → In m (noticed c) → Refuses id m → In id (told_by committed_in c) → In id (told_by failed_in c)
+AreRefusalsTrue c = (m : Message) (id : MessageId) → In m (noticed c) → Refuses id m
+    → In id (told_by committed_in c) → In id (told_by failed_in c)
 
 -- None names a message that was put at its source.
 abbrev pub IsNoLocalRefused : Course → Type 0
-IsNoLocalRefused c = (m : Message) (id : MessageId) → In m (noticed c) → Refuses id m → In id (told_by local_in c) → ⊥
+IsNoLocalRefused c = (m : Message) (id : MessageId) → In m (noticed c) → Refuses id m
+    → In id (told_by local_in c) → ⊥
 
 -- What expired or was refused was never put.
 abbrev pub IsNoFailurePut : Course → Type 0
 IsNoFailurePut c = (id : MessageId) → In id (told_by failed_in c) → In id (told_by put_in c) → ⊥
 
--- What a refusal says is so: the committed message that it names expired or was refused, and was never put, and no message of its source's own
--- queues is named.
+-- What a refusal says is so: the committed message that it names expired or was refused, and was
+-- never put, and no message of its source's own queues is named.
 pub record IsTruthful (c : Course) : Type 0 where
   pub of_committed : AreRefusalsTrue c
   pub not_local : IsNoLocalRefused c

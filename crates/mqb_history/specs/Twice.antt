@@ -27,7 +27,8 @@ asking = record (parts_of remote_notes UNLIMITED 0 (codes "hi")) {
   ack = NEGATIVE_RECEIVE;
 }
 
--- The message is sent and put, and the connection ends before that is acknowledged. So it is sent and put again. One copy is taken, and one purged.
+-- The message is sent and put, and the connection ends before that is acknowledged. So it is sent
+-- and put again. One copy is taken, and one purged.
 abbrev pub one_twice : List Move
 one_twice = a_plain_queue (codes "notes")
     ∷ a_plain_queue (codes "box")
@@ -49,13 +50,15 @@ pub record Telling : Type 0 where
 
 -- what the messages of the queues of a manager tell
 abbrev pub told_in : Network → ℕ → List (List Telling)
-told_in n i = map (λ q. map (λ m. record { class = m.class; about = m.correlation }) q.lists.durable)
+told_in n i =
+    map (λ q. map (λ m. record { class = m.class; about = m.correlation }) q.lists.durable)
     (manager_at n i).state.places.queues
 
 -- A notice says that the message was not received, and it was taken.
 pub record OneIsTakenAndMissed : Type 0 where
   pub run : IsRun pair one_twice
   pub ledger : (network_of one_twice).ledger
-      ≡ line.Stored (of_alpha 1) ∷ line.Stored (of_alpha 1) ∷ line.Took (of_alpha 1) ∷ line.Purged (of_alpha 1) ∷ []
+      ≡ line.Stored (of_alpha 1) ∷ line.Stored (of_alpha 1) ∷ line.Took (of_alpha 1)
+      ∷ line.Purged (of_alpha 1) ∷ []
   pub notice : told_in (network_of one_twice) 1
       ≡ [] ∷ (record { class = QUEUE_PURGED; about = of_alpha 1 } ∷ []) ∷ []

@@ -17,9 +17,11 @@ pub record IsInRow (s : State) (c : Commitment) : Type 0 where
   pub there : In row s.outs
   pub sequence : row.sequence ≡ c.position.sequence
   pub destination : row.destination ≡ c.message.destination
-  pub waits : (c.position.number ≤ row.acked) ⊎ In (record { number = c.position.number; message = c.message }) row.kept
+  pub waits : (c.position.number ≤ row.acked)
+      ⊎ In (record { number = c.position.number; message = c.message }) row.kept
 
 -- Each message that a manager committed was acknowledged, or waits in its row, or expired.
 abbrev pub AreWaiting : Course → Type 0
 AreWaiting c = (i : ℕ) (m : Commitment) → In m (commitments (written_of i c.written))
-    → IsInRow (manager_at c.network i).state m ⊎ In m.position (expiries_told (lines_written (written_of i c.written)))
+    → IsInRow (manager_at c.network i).state m
+    ⊎ In m.position (expiries_told (lines_written (written_of i c.written)))

@@ -4,7 +4,8 @@ use Rattle.mqb_inspect.specs.declared.grammar.CaptureHead.{CaptureHead}
 use Rattle.mqb_inspect.specs.declared.grammar.PieceView.{PieceView}
 
 abbrev pub seen_head : CaptureHead → Head
-seen_head head = record { role = role_of head.role; own = head.own; peer = head.peer; window = head.window }
+seen_head head =
+    record { role = role_of head.role; own = head.own; peer = head.peer; window = head.window }
 
 abbrev pub seen_piece : PieceView → Piece
 seen_piece piece = record { way = piece.way; bytes = piece.bytes.now }

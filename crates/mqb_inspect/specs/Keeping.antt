@@ -17,7 +17,8 @@ sequence_of n = record { destination = n.message.destination; sequence = n.tx.se
 
 -- No sequence stands twice.
 abbrev pub AreOnce : List SequenceKey → Type 0
-AreOnce sequences = (i j : ℕ) (key : SequenceKey) → slice_get sequences i ≡ Some key → slice_get sequences j ≡ Some key → i ≡ j
+AreOnce sequences = (i j : ℕ) (key : SequenceKey) → slice_get sequences i ≡ Some key
+    → slice_get sequences j ≡ Some key → i ≡ j
 
 -- A message has this key.
 pub record HasKey (sequences : List SequenceKey) (n : Link) (key : LinkKey) : Type 0 where
@@ -29,22 +30,31 @@ abbrev pub key_cmp : LinkKey → LinkKey → Ordering
 key_cmp a b = ordering_then (nat_cmp a.sequence b.sequence) (nat_cmp a.number b.number)
 
 -- The key of each message that came leads to one that has it.
-pub record AreKept (sequences : List SequenceKey) (places : BTreeMap LinkKey ℕ) (came : List Link) : Type 0 where
+pub record AreKept (sequences : List SequenceKey) (places : BTreeMap LinkKey ℕ)
+    (came : List Link) : Type 0 where
   pub once : AreOnce sequences
-  pub all : AllByRecursion (λ n. (key : LinkKey) × HasKey sequences n key × IsSome (get key_cmp places key)) came
-  pub leads : (key : LinkKey) (place : ℕ) → get key_cmp places key ≡ Some place → (n : Link) × (slice_get came place ≡ Some n) × HasKey sequences n key
+  pub all : AllByRecursion
+      (λ n. (key : LinkKey) × HasKey sequences n key × IsSome (get key_cmp places key)) came
+  pub leads : (key : LinkKey) (place : ℕ) → get key_cmp places key ≡ Some place
+      → (n : Link) × (slice_get came place ≡ Some n) × HasKey sequences n key
 
 -- the greatest key before this one leads to a place, or there is none
 abbrev pub IsBefore : BTreeMap LinkKey ℕ → LinkKey → Option ℕ → Type 0
-IsBefore places key None = (other : LinkKey) → key_cmp other key ≡ Less → get key_cmp places other ≡ None
-IsBefore places key (Some place) = (before : LinkKey) × (get key_cmp places before ≡ Some place) × (key_cmp before key ≡ Less)
-    × ((other : LinkKey) → key_cmp other key ≡ Less → IsSome (get key_cmp places other) → is_lt (key_cmp before other) ≡ false)
+IsBefore places key None =
+    (other : LinkKey) → key_cmp other key ≡ Less → get key_cmp places other ≡ None
+IsBefore places key (Some place) =
+    (before : LinkKey) × (get key_cmp places before ≡ Some place) × (key_cmp before key ≡ Less)
+    × ((other : LinkKey) → key_cmp other key ≡ Less → IsSome (get key_cmp places other)
+    → is_lt (key_cmp before other) ≡ false)
 
 -- and the least one that is this one or behind it
 abbrev pub IsFrom : BTreeMap LinkKey ℕ → LinkKey → Option ℕ → Type 0
-IsFrom places key None = (other : LinkKey) → is_gt (key_cmp key other) ≡ false → get key_cmp places other ≡ None
-IsFrom places key (Some place) = (from : LinkKey) × (get key_cmp places from ≡ Some place) × (is_gt (key_cmp key from) ≡ false)
-    × ((other : LinkKey) → is_gt (key_cmp key other) ≡ false → IsSome (get key_cmp places other) → is_gt (key_cmp from other) ≡ false)
+IsFrom places key None =
+    (other : LinkKey) → is_gt (key_cmp key other) ≡ false → get key_cmp places other ≡ None
+IsFrom places key (Some place) =
+    (from : LinkKey) × (get key_cmp places from ≡ Some place) × (is_gt (key_cmp key from) ≡ false)
+    × ((other : LinkKey) → is_gt (key_cmp key other) ≡ false → IsSome (get key_cmp places other)
+    → is_gt (key_cmp from other) ≡ false)
 
 -- a message fits the one at a place that was found, or none was
 abbrev pub fits_found : List Link → Option ℕ → Link → Bool

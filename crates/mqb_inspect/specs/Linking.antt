@@ -9,13 +9,17 @@ use Rattle.mqb_capture.specs.declared.link.Link.{Link}
 -- The parts of `same_message`, from the last fields on.
 
 abbrev pub same_content : Message → Message → Bool
-same_content a b = (a.body_type == b.body_type && a.tag == b.tag) && ((same_bytes a.label b.label && same_bytes a.extension b.extension) && same_bytes a.body b.body)
+same_content a b = (a.body_type == b.body_type && a.tag == b.tag)
+    && ((same_bytes a.label b.label && same_bytes a.extension b.extension)
+    && same_bytes a.body b.body)
 
 abbrev pub same_asking : Message → Message → Bool
-same_asking a b = (same_optional a.response b.response && a.ack == b.ack) && ((a.journal == b.journal && same_id a.correlation b.correlation) && same_content a b)
+same_asking a b = (same_optional a.response b.response && a.ack == b.ack)
+    && ((a.journal == b.journal && same_id a.correlation b.correlation) && same_content a b)
 
 abbrev pub same_names : Message → Message → Bool
-same_names a b = (a.sent == b.sent && a.life == b.life) && ((same_name a.destination b.destination && same_optional a.admin b.admin) && same_asking a b)
+same_names a b = (a.sent == b.sent && a.life == b.life)
+    && ((same_name a.destination b.destination && same_optional a.admin b.admin) && same_asking a b)
 
 -- two messages fit, whichever of them is the later one
 abbrev pub fit_both : Link → Link → Bool

@@ -2,7 +2,8 @@
 use Rattle.std.specs.Prelude.{◌≡◌, ◌++◌, List, Option, codes, ℕ}
 use Rattle.std.specs.Fmt.{decimal}
 use Rattle.mqb_base.specs.declared.heard.Cause.{Cause}
-use Rattle.mqb_base.specs.declared.heard.Cause.TheVariants.{Early, BadAck, Refused, Repeated, Foreign}
+use Rattle.mqb_base.specs.declared.heard.Cause.TheVariants.{Early, BadAck, Refused}
+use Rattle.mqb_base.specs.declared.heard.Cause.TheVariants.{Repeated, Foreign}
 use Rattle.mqb_capture.specs.declared.answers.BreakCause.{BreakCause}
 use Rattle.mqb_capture.specs.declared.answers.BreakCause.TheVariants as cause
 use Rattle.mqb_capture.specs.declared.answers.Verdict.{Verdict}
@@ -44,8 +45,10 @@ cause_text cause.Cut = codes "cut"
 
 -- the line of a verdict
 abbrev pub verdict_text : Verdict → List ℕ
-verdict_text (verdict.Lawful sent heard) = ((codes "lawful " ++ decimal sent) ++ (codes " " ++ decimal heard)) ++ codes "\n"
-verdict_text (verdict.Broken index why) = ((codes "broken " ++ decimal index) ++ (codes " " ++ cause_text why)) ++ codes "\n"
+verdict_text (verdict.Lawful sent heard) =
+    ((codes "lawful " ++ decimal sent) ++ (codes " " ++ decimal heard)) ++ codes "\n"
+verdict_text (verdict.Broken index why) =
+    ((codes "broken " ++ decimal index) ++ (codes " " ++ cause_text why)) ++ codes "\n"
 
 -- a sink that had taken before took a front of this text, and has taken after
 pub record TookFront (before after : Option (List ℕ)) (text : List ℕ) : Type 0 where

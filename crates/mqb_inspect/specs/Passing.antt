@@ -44,4 +44,5 @@ goes_from source target _ = true
 
 -- what a user packet that is heard leaves, whoever the peer is
 abbrev pub heard_user : UserPacket → State → State
-heard_user p s = option_map_or (λ head. after_head p.message.delivery (heard_head head s)) p.session s
+heard_user p s =
+    option_map_or (λ head. after_head p.message.delivery (heard_head head s)) p.session s

@@ -1,5 +1,6 @@
 -- What the program does.
-use Rattle.std.specs.Prelude.{◌≡◌, ◌∷◌, [], Bool, false, codes, IfSome, List, ◌⊎◌, Option, Result, Ok, Err, ℕ}
+use Rattle.std.specs.Prelude.{◌≡◌, ◌∷◌, [], Bool, false, codes, IfSome, List, ◌⊎◌, Option, Result}
+use Rattle.std.specs.Prelude.{Ok, Err, ℕ}
 use Rattle.mqb_base.specs.Same.{same_bytes}
 use Rattle.mqb_capture.specs.Verdicts.{Says}
 use Rattle.mqb_capture.specs.declared.answers.InspectFault.{InspectFault}
@@ -41,13 +42,16 @@ fault_status fault.TooMuch = status.TooMuch
 fault_status fault.ReadFault = status.ReadFault
 fault_status fault.Memory = status.Memory
 
--- The line of a verdict was written; or a front of it was, and the output failed; or memory ran out before.
+-- The line of a verdict was written; or a front of it was, and the output failed; or
+-- memory ran out before.
 abbrev pub TellsVerdict : Verdict → (before after : Option (List ℕ)) → InspectStatus → Type 0
 TellsVerdict v before after r = ((r ≡ status_of v) × Took before after (verdict_text v))
-    ⊎ (((r ≡ status.WriteFault) × TookFront before after (verdict_text v)) ⊎ ((r ≡ status.Memory) × (after ≡ before)))
+    ⊎ (((r ≡ status.WriteFault) × TookFront before after (verdict_text v))
+    ⊎ ((r ≡ status.Memory) × (after ≡ before)))
 
 -- what is written of an answer
-abbrev pub Tells : Result Verdict InspectFault → (before after : Option (List ℕ)) → InspectStatus → Type 0
+abbrev pub Tells : Result Verdict InspectFault → (before after : Option (List ℕ)) → InspectStatus
+    → Type 0
 Tells (Ok v) before after r = TellsVerdict v before after r
 Tells (Err why) before after r = (r ≡ fault_status why) × (after ≡ before)
 

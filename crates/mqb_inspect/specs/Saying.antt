@@ -1,5 +1,6 @@
 -- What is said of a capture, and what was read of it.
-use Rattle.std.specs.Prelude.{◌≡◌, ◌+◌, ◌==◌, List, Option, Result, Ok, Err, if◌then◌else◌, length, nat_le, not, ℕ}
+use Rattle.std.specs.Prelude.{◌≡◌, ◌+◌, ◌==◌, List, Option, Result, Ok, Err, if◌then◌else◌, length}
+use Rattle.std.specs.Prelude.{nat_le, not, ℕ}
 use Rattle.mqb_capture.specs.declared.answers.BreakCause.TheVariants as cause
 use Rattle.mqb_capture.specs.declared.answers.InspectFault.{InspectFault}
 use Rattle.mqb_capture.specs.declared.answers.InspectFault.TheVariants as fault
@@ -11,7 +12,8 @@ use Rattle.mqb_inspect.specs.Standing.{holds_rest}
 use Rattle.mqb_inspect.specs.declared.standing.Inspection.{Inspection}
 use Rattle.mqb_outside.specs.Faults.{Rose}
 
--- what is said behind lawful pieces, where these bytes are left, in which no piece stands, as a place tells
+-- what is said behind lawful pieces, where these bytes are left, in which no piece
+-- stands, as a place tells
 abbrev pub said_behind : Inspection → (left : List ℕ) → (place : ℕ) → Result Verdict InspectFault
 said_behind i left place = if nat_le MAX_CAPTURE place then Err fault.TooMuch
     else if not (length left == 0) then Err (fault.Capture place)

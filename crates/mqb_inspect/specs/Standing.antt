@@ -1,5 +1,6 @@
 -- Where an inspection stands.
-use Rattle.std.specs.Prelude.{◌≡◌, ◌+◌, ◌++◌, ◌∷◌, ◌==◌, ◌&&◌, Bool, List, Option, None, Some, count_by, length, not, true}
+use Rattle.std.specs.Prelude.{◌≡◌, ◌+◌, ◌++◌, ◌∷◌, ◌==◌, ◌&&◌, Bool, List, Option, None, Some}
+use Rattle.std.specs.Prelude.{count_by, length, not, true}
 use Rattle.mqb_capture.specs.Breaks.{IsFirstCause}
 use Rattle.mqb_capture.specs.Events.{Event, Watch}
 use Rattle.mqb_capture.specs.Grammar.{Head}
@@ -23,7 +24,8 @@ pub record Knows (h : Head) (events : List Event) (i : Inspection) : Type 0 wher
   pub sent_count : i.sent_count ≡ count_by is_sent events
   pub heard_count : i.heard_count ≡ count_by is_heard events
 
--- It stands behind pieces, of which it knows the events, and holds the bytes that are no packet yet.
+-- It stands behind pieces, of which it knows the events, and holds the bytes
+-- that are no packet yet.
 pub record Stands (h : Head) (w : Watch) (i : Inspection) : Type 0 where
   pub knows : Knows h w.events i
   pub sent : i.sent.held ≡ w.sent

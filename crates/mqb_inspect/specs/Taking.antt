@@ -1,5 +1,6 @@
 -- What an inspection makes of a packet.
-use Rattle.std.specs.Prelude.{◌≡◌, ◌+◌, ◌⊎◌, ◌∷◌, ◌++◌, [], Bool, false, true, List, Option, None, Some}
+use Rattle.std.specs.Prelude.{◌≡◌, ◌+◌, ◌⊎◌, ◌∷◌, ◌++◌, [], Bool, false, true, List, Option}
+use Rattle.std.specs.Prelude.{None, Some}
 use Rattle.mqb_capture.specs.Lawful.{cause_of, heard_by}
 use Rattle.mqb_capture.specs.Links.{link_of}
 use Rattle.mqb_capture.specs.declared.link.Link.{Link}
@@ -14,7 +15,8 @@ use Rattle.mqb_session.specs.State.{State}
 -- a packet's message joined those of its way, where it has a place in a sequence
 abbrev pub JoinsBy : Option Link → List Link → List Link → Bool → Type 0
 JoinsBy None came after added = (added ≡ true) × (after ≡ came)
-JoinsBy (Some link) came after added = (added ≡ may_join came link) × (added ≡ true → after ≡ came ++ link ∷ [])
+JoinsBy (Some link) came after added =
+    (added ≡ may_join came link) × (added ≡ true → after ≡ came ++ link ∷ [])
 
 abbrev pub JoinsOf : Packet → List Link → List Link → Bool → Type 0
 JoinsOf p came after added = JoinsBy (link_of p) came after added
@@ -41,11 +43,13 @@ pub record IsTakenSent (p : Packet) (i j : Inspection) : Type 0 where
   pub count : j.sent_count ≡ i.sent_count + 1
   pub other : j.heard_count ≡ i.heard_count
 
--- It was sent between other managers; or the session does not send it; or its message does not fit those of its way.
+-- It was sent between other managers; or the session does not send it; or its message does not
+-- fit those of its way.
 abbrev pub BreaksSent : BreakCause → Packet → Inspection → Type 0
 BreaksSent why p i = ((why ≡ cause.Origin) × (goes_from i.own i.peer p ≡ false))
     ⊎ (((goes_from i.own i.peer p ≡ true) × IsSentCause why p i.session)
-    ⊎ ((why ≡ cause.Link) × (goes_from i.own i.peer p ≡ true) × (s : State) × IsSent p i.session s × (after : List Link) × JoinsOf p i.sent_links after false))
+    ⊎ ((why ≡ cause.Link) × (goes_from i.own i.peer p ≡ true) × (s : State) × IsSent p i.session s
+    × (after : List Link) × JoinsOf p i.sent_links after false))
 
 abbrev pub TakesSent : Packet → Inspection → Inspection → Option BreakCause → Type 0
 TakesSent p i j None = IsTakenSent p i j
@@ -65,8 +69,11 @@ pub record IsTakenHeard (p : Packet) (i j : Inspection) : Type 0 where
 -- why a packet that was heard is not
 abbrev pub BreaksHeard : BreakCause → Packet → Inspection → Type 0
 BreaksHeard cause.Origin p i = goes_from i.peer i.own p ≡ false
-BreaksHeard (cause.Closed why) p i = (goes_from i.peer i.own p ≡ true) × (cause_of (heard_by i.peer p i.session).phase ≡ Some why)
-BreaksHeard cause.Link p i = (goes_from i.peer i.own p ≡ true) × (cause_of (heard_by i.peer p i.session).phase ≡ None) × (after : List Link) × JoinsOf p i.heard_links after false
+BreaksHeard (cause.Closed why) p i =
+    (goes_from i.peer i.own p ≡ true) × (cause_of (heard_by i.peer p i.session).phase ≡ Some why)
+BreaksHeard cause.Link p i =
+    (goes_from i.peer i.own p ≡ true) × (cause_of (heard_by i.peer p i.session).phase ≡ None)
+    × (after : List Link) × JoinsOf p i.heard_links after false
 BreaksHeard why p i = ⊥
 
 abbrev pub TakesHeard : Packet → Inspection → Inspection → Option BreakCause → Type 0

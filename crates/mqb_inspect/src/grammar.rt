@@ -1,7 +1,8 @@
 //! The bytes of a capture: its head, and its pieces.
 ghost use Rattle.std.specs.Prelude.{◌≡◌, ◌∷◌, [], length, OnOk};
 ghost use Rattle.mqb_fields.specs.Reading.{Reads, ReadsAs, guid_at};
-ghost use Rattle.mqb_capture.specs.Grammar.{head_at, magic_at, or_end, piece_at, role_of, way_of, within_at};
+ghost use Rattle.mqb_capture.specs.Grammar.{head_at, magic_at, or_end, piece_at, role_of};
+ghost use Rattle.mqb_capture.specs.Grammar.{way_of, within_at};
 ghost use Rattle.mqb_capture.specs.Lawful.{first_session};
 ghost use Rattle.mqb_capture.specs.declared.answers.TheConstants.{MAX_PIECE};
 ghost use Rattle.mqb_inspect.specs.Grammar.{seen_head, seen_piece};
@@ -30,7 +31,8 @@ pub struct PieceView<'a> {
     pub bytes: &'a [u8],
 }
 
-// Each reader answers the place that tells a field which is none: its first byte where it is outside the grammar, and `end`, that of all bytes, where it is cut short.
+// Each reader answers the place that tells a field which is none: its first byte where it is
+// outside the grammar, and `end`, that of all bytes, where it is cut short.
 
 fn read_magic(cursor: &mut Cursor<'_>, end: usize) -> Result<u32, usize>
     requires { end ≡ length cursor.old.bytes }

@@ -12,7 +12,8 @@ use mqb_fields::Cursor;
 use mqb_outside::Source;
 use std::alloc::Global;
 
-/// What is said where no piece stands behind lawful ones, as a place tells, and these bytes are left.
+/// What is said where no piece stands behind lawful ones, as a place tells, and
+/// these bytes are left.
 fn said_behind(inspection: &Inspection, left: &[u8], place: usize) -> Result<Verdict, InspectFault>
     ensures { result ≡ said_behind inspection.now left.now place }
 {
@@ -68,11 +69,13 @@ fn judge(alloc: Global, bytes: &[u8]) -> Result<Verdict, InspectFault>
     }
 }
 
-/// Reads a capture, and says whether it is lawful. Of the input so many bytes are read as are looked at, or all.
+/// Reads a capture, and says whether it is lawful. Of the input so many bytes are read as
+/// are looked at, or all.
 ///
 /// # Errors
-/// `Capture`: the bytes stop being a capture at a place before which nothing breaks it. `TooMuch`: there are too many, and nothing breaks those that were read.
-/// `ReadFault`: the input failed. `Memory`: memory ran out.
+/// `Capture`: the bytes stop being a capture at a place before which nothing breaks it. `TooMuch`:
+/// there are too many, and nothing breaks those that were read. `ReadFault`: the input failed.
+/// `Memory`: memory ran out.
 pub fn inspect<S: Source>(alloc: Global, input: &mut S) -> Result<Verdict, InspectFault>
     ensures says { IfSome (S.held input.old) (λ bytes. Says bytes result) }
     ensures ended { EndsInput result (S.held input.new) }

@@ -1,9 +1,11 @@
 //! The messages that went one way, which are found by their sequences and their numbers.
 ghost use Rattle.std.specs.List.{slice_get};
-ghost use Rattle.std.specs.Prelude.{◌≡◌, ◌∷◌, ◌++◌, [], IfOk, List, OnErr, OnOk, Some, nat_lt, true, ℕ};
+ghost use Rattle.std.specs.Prelude.{◌≡◌, ◌∷◌, ◌++◌, [], IfOk, List, OnErr, OnOk, Some, nat_lt};
+ghost use Rattle.std.specs.Prelude.{true, ℕ};
 ghost use Rattle.mqb_capture.specs.Links.{AreLinked};
 ghost use Rattle.mqb_inspect.specs.Linking.{may_join, fits_all};
-ghost use Rattle.mqb_inspect.specs.Keeping.{AreKept, AreOnce, HasKey, IsBefore, IsFrom, fits_found, sequence_of};
+ghost use Rattle.mqb_inspect.specs.Keeping.{AreKept, AreOnce, HasKey, IsBefore, IsFrom};
+ghost use Rattle.mqb_inspect.specs.Keeping.{fits_found, sequence_of};
 ghost use Rattle.mqb_inspect.specs.declared.links.SequenceKey.{SequenceKey};
 
 use crate::fitting::fit_both;
@@ -119,7 +121,8 @@ fn keep(
     Ok(())
 }
 
-/// The messages that went one way, in the order in which they came. The places lead to the last one of each number.
+/// The messages that went one way, in the order in which they came. The places lead to the
+/// last one of each number.
 #[derive(Debug, Drop)]
 pub struct Links {
     came: Vec<Link>,
@@ -137,7 +140,8 @@ impl Model for Links {
 
     ghost view = { λ l. l.came.items };
 
-    ghost invariant = { λ l. AreLinked l.came.items × AreKept l.sequences.keys l.places l.came.items };
+    ghost invariant = { λ l. AreLinked l.came.items
+        × AreKept l.sequences.keys l.places l.came.items };
 }
 
 impl Links {

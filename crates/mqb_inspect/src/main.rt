@@ -1,4 +1,5 @@
-//! `mqb_inspect` says whether a capture of one end of a connection is lawful, and which packet breaks it where it is not.
+//! `mqb_inspect` says whether a capture of one end of a connection is lawful, and which packet
+//! breaks it where it is not.
 #![tactic(auto)]
 
 mod cutting;

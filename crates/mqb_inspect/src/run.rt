@@ -1,6 +1,8 @@
 ghost use Rattle.std.specs.Prelude.{◌≡◌, ◌↔◌, false, map, true};
 ghost use Rattle.std.specs.String.{string_bytes};
-ghost use Rattle.mqb_inspect.specs.Runs.{Inspects, TellsVerdict, ReadFaultHasCause, WriteFaultHasCause, exit_of, fault_status, is_inspect, status_of};
+ghost use Rattle.mqb_inspect.specs.Runs.{Inspects, TellsVerdict, ReadFaultHasCause};
+ghost use Rattle.mqb_inspect.specs.Runs.{WriteFaultHasCause, exit_of, fault_status};
+ghost use Rattle.mqb_inspect.specs.Runs.{is_inspect, status_of};
 
 use crate::inspect::inspect;
 use crate::output::write_all;
@@ -92,7 +94,8 @@ fn tell<K: Sink>(alloc: Global, verdict: Verdict, out: &mut K) -> InspectStatus
     }
 }
 
-/// Inspects the capture that the input is, where the words ask for that, and writes the line of its verdict. Where there is none nothing is written.
+/// Inspects the capture that the input is, where the words ask for that, and writes the line of its
+/// verdict. Where there is none nothing is written.
 pub fn run_inspect<S: Source, K: Sink>(
     alloc: Global,
     words: &[String],

@@ -68,7 +68,8 @@ fn send_user(session: &mut Session, p: &UserPacket) -> Option<BreakCause>
     None
 }
 
-/// Sends the set-up packet that is owed at a moment, or says that this is another one, or that it ends the session.
+/// Sends the set-up packet that is owed at a moment, or says that this is another one, or that
+/// it ends the session.
 fn send_set_up(session: &mut Session, part: Internal, moment: u32) -> Option<BreakCause>
     ensures owed { IfNone result (IsOwed part moment session.old) }
     ensures other { IfSome result (λ why. (why ≡ BreakCause.Phase)
@@ -110,7 +111,8 @@ fn hear_user(session: &mut Session, p: &UserPacket)
     }
 }
 
-/// Hears a packet, of which only this peer is a known client, and says why that closes the session, where it does.
+/// Hears a packet, of which only this peer is a known client, and says why that closes the
+/// session, where it does.
 pub fn hear(session: &mut Session, peer: Guid, p: &Packet) -> Option<Cause>
     ensures left { session.new ≡ heard_by peer p.now session.old }
     ensures cause { result ≡ cause_of session.new.phase }

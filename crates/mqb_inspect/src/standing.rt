@@ -5,8 +5,9 @@ use mqb_base::Guid;
 use mqb_session::Session;
 use mqb_stream::Framer;
 
-/// What is known of the packets so far, which are lawful. Of each way: the bytes that are no packet yet, the messages with their numbers, and how many packets
-/// came. `seen` is the count of all bytes.
+/// What is known of the packets so far, which are lawful. Of each way: the bytes that are
+/// no packet yet, the messages with their numbers, and how many packets came. `seen` is
+/// the count of all bytes.
 #[derive(Debug, Drop)]
 pub struct Inspection {
     pub own: Guid,

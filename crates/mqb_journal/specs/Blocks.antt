@@ -1,4 +1,5 @@
--- The block of a record: its length, its bytes, and a closed gate. The record is spelled in it, behind the four bytes for its length.
+-- The block of a record: its length, its bytes, and a closed gate. The record is spelled in it,
+-- behind the four bytes for its length.
 use Rattle.std.specs.Prelude.{◌≡◌, ℕ, ◌-◌, List, [], ◌∷◌, ◌++◌, length, take, drop}
 use Rattle.mqb_fields.specs.Writing.{bytes_of}
 use Rattle.mqb_journal.specs.Store.{IsSmall}

@@ -1,8 +1,10 @@
-use Rattle.std.specs.Prelude.{◌≡◌, ℕ, ◌+◌, List, length, true, false, IfSome, Option, Some, None, Result, Ok, Err}
+use Rattle.std.specs.Prelude.{◌≡◌, ℕ, ◌+◌, List, length, true, false, IfSome, Option, Some, None}
+use Rattle.std.specs.Prelude.{Result, Ok, Err}
 use Rattle.std.specs.List.{All}
 use Rattle.mqb_outside.specs.Images.{Each}
 use Rattle.mqb_outside.specs.Disk.{View}
-use Rattle.mqb_journal.specs.Store.{Base, Nothing, After, count_of, bytes_in, HasFront, HasChain, IsSmall, chain}
+use Rattle.mqb_journal.specs.Store.{Base, Nothing, After, count_of, bytes_in, HasFront, HasChain}
+use Rattle.mqb_journal.specs.Store.{IsSmall, chain}
 use Rattle.mqb_layout.specs.Layouts.{layout_of}
 use Rattle.mqb_layout.specs.declared.limits.TheConstants.{HEADER}
 use Rattle.mqb_layout.specs.declared.layout.Layout.{Layout}
@@ -20,14 +22,16 @@ layout_in Nothing image = None
 layout_in (After count bytes) image = Some (layout_of image)
 
 -- It stands for them, lies so, and has its first gate at a place.
-pub record StandsIn (guid : List ℕ) (later : Option Layout) (first : ℕ) (base : Base) (records : List (List ℕ)) (image : List ℕ) : Type 0 where
+pub record StandsIn (guid : List ℕ) (later : Option Layout) (first : ℕ) (base : Base)
+    (records : List (List ℕ)) (image : List ℕ) : Type 0 where
   pub front : HasFront guid base first image
   pub laid : layout_in base image ≡ later
   pub stands : HasChain first records image
 
 -- A disk stands for the base and the records that this journal goes on from.
 -- Of version 1 it is known where the first gate stands also of a disk that tells no contents.
-pub record GoesOn (d : View) (j : JournalState) (base : Base) (records : List (List ℕ)) : Type 0 where
+pub record GoesOn (d : View) (j : JournalState) (base : Base)
+    (records : List (List ℕ)) : Type 0 where
   pub first : ℕ
   pub behind : j.later ≡ None → first ≡ HEADER
   pub stands : Each d.reads (StandsIn j.guid.0 j.later first base records)
@@ -37,7 +41,8 @@ pub record GoesOn (d : View) (j : JournalState) (base : Base) (records : List (L
   pub up : j.down ≡ false
 
 -- These contents have a front with this GUID, so many records before it, and this base.
-pub record IsFrontOf (told : List ℕ → Type 0) (guid : List ℕ) (later : Option Layout) (first count : ℕ) (held : Option (List ℕ)) : Type 0 where
+pub record IsFrontOf (told : List ℕ → Type 0) (guid : List ℕ) (later : Option Layout)
+    (first count : ℕ) (held : Option (List ℕ)) : Type 0 where
   pub base : Base
   pub front : Each told (HasFront guid base first)
   pub laid : Each told (λ c. layout_in base c ≡ later)

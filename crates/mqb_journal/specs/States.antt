@@ -1,4 +1,5 @@
-use Rattle.std.specs.Prelude.{◌≡◌, ℕ, ◌+◌, ◌^◌, ◌<◌, ◌≤◌, Bool, true, false, List, length, ◌&&◌, ◌||◌, nat_lt, Option, Some, is_none}
+use Rattle.std.specs.Prelude.{◌≡◌, ℕ, ◌+◌, ◌^◌, ◌<◌, ◌≤◌, Bool, true, false, List, length, ◌&&◌}
+use Rattle.std.specs.Prelude.{◌||◌, nat_lt, Option, Some, is_none}
 use Rattle.mqb_outside.specs.declared.disk.TheConstants.{MAX_DISK}
 use Rattle.mqb_base.specs.declared.ids.Guid.{Guid}
 use Rattle.mqb_layout.specs.declared.layout.Layout.{Layout}
@@ -57,12 +58,31 @@ pub record ScanState : Type 0 where
   pub ended : Bool
 
 -- before the first record, with a buffer that has this at its front
-abbrev pub begun : Guid → Option Layout → (len gate count : ℕ) → Option (List ℕ) → Bool → List ℕ → ScanState
-begun guid later len gate count base is_open lent = record { guid = guid; later = later; len = len; gate = gate; place = gate; count = count; base = base; lent = lent; is_open = is_open; ended = false }
+abbrev pub begun : Guid → Option Layout → (len gate count : ℕ) → Option (List ℕ) → Bool → List ℕ
+    → ScanState
+begun guid later len gate count base is_open lent = record {
+  guid = guid;
+  later = later;
+  len = len;
+  gate = gate;
+  place = gate;
+  count = count;
+  base = base;
+  lent = lent;
+  is_open = is_open;
+  ended = false;
+}
 
 -- after it lent this record, behind which a gate stands that is open or not
 abbrev pub advanced : ScanState → List ℕ → Bool → ScanState
-advanced s entry is_open = record s { gate = s.gate + 5 + length entry; place = s.gate; count = s.count + 1; lent = entry; is_open = is_open; ended = false }
+advanced s entry is_open = record s {
+  gate = s.gate + 5 + length entry;
+  place = s.gate;
+  count = s.count + 1;
+  lent = entry;
+  is_open = is_open;
+  ended = false;
+}
 
 -- after the last record
 abbrev pub ended : ScanState → ScanState
@@ -70,7 +90,14 @@ ended s = record s { ended = true }
 
 -- the journal that goes on from there, with this room
 abbrev pub finished : ScanState → ℕ → JournalState
-finished s room = record { guid = s.guid; later = s.later; end = s.gate; count = s.count; down = false; room = room }
+finished s room = record {
+  guid = s.guid;
+  later = s.later;
+  end = s.gate;
+  count = s.count;
+  down = false;
+  room = room;
+}
 
 -- a scan stands within the disk, and its record and the gate behind it within the buffer
 pub record IsWithin (len gate place count held buffer : ℕ) (later : Option Layout) : Type 0 where

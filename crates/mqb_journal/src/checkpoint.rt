@@ -1,4 +1,5 @@
-ghost use Rattle.std.specs.Prelude.{◌≡◌, ◌≢◌, ◌↔◌, ◌+◌, ◌-◌, ◌*◌, ◌^◌, ◌<◌, ◌≤◌, ℕ, List, [], length, true, false, Some, Err, IfSome, OnOk};
+ghost use Rattle.std.specs.Prelude.{◌≡◌, ◌≢◌, ◌↔◌, ◌+◌, ◌-◌, ◌*◌, ◌^◌, ◌<◌, ◌≤◌, ℕ, List, []};
+ghost use Rattle.std.specs.Prelude.{length, true, false, Some, Err, IfSome, OnOk};
 ghost use Rattle.mqb_outside.specs.Faults.{HasCause};
 ghost use Rattle.mqb_outside.specs.Images.{Each, Follows};
 ghost use Rattle.mqb_outside.specs.Disk.{IsSettled, LeavesOnly, Counted, AtMost};
@@ -31,7 +32,8 @@ impl Journal {
         self.later.is_none() && head_behind(self.end) > MOST_HEAD || self.count > MOST_COUNT
     }
 
-    // Writes a base in place of all records, by seven calls of the disk: the store is as it was until the second half of them.
+    // Writes a base in place of all records, by seven calls of the disk: the store is as it was
+    // until the second half of them.
     fn write_base<D: Disk>(
         &self,
         disk: &mut D,
@@ -73,7 +75,8 @@ impl Journal {
         switch_over(disk, switch_place(self.later), switch_byte(self.later), end)
     }
 
-    /// Writes a base in place of all records, by seven calls of the disk. At `Ok` each crash from then on leaves it; the space before it is used again.
+    /// Writes a base in place of all records, by seven calls of the disk. At `Ok` each crash from
+    /// then on leaves it; the space before it is used again.
     pub fn checkpoint<D: Disk>(&mut self, disk: &mut D, base: &[u8]) -> Result<(), CheckpointFault>
         requires { self.old.down ≡ false
             → Each (D.view disk.old).reads (λ c. self.old.end < length c) }
@@ -81,13 +84,15 @@ impl Journal {
             → GoesOn (D.view disk.old) self.old old records
             → OnOk result
             (GoesOn (D.view disk.new) self.new (After self.old.count base.now) []) }
-        // The area, where it is found, and the switch are written, what stands behind the area is cut off, and all else is as it was.
+        // The area, where it is found, and the switch are written, what stands behind the area is
+        // cut off, and all else is as it was.
         ensures wrote { OnOk result
             (Follows (IsRewritten self.old.later self.old.end self.old.count base.now)
             (D.view disk.old).reads (D.view disk.new).reads) }
         ensures settled { OnOk result (IsSettled (D.view disk.new)) }
 
-        // A crash at any moment of the call leaves the old base and records, or the new base and none.
+        // A crash at any moment of the call leaves the old base and records, or
+        // the new base and none.
         ensures moments { (old : Base) (records : List (List ℕ))
             → GoesOn (D.view disk.old) self.old old records → IsSettled (D.view disk.old)
             → LeavesOnly (D.view disk.old) (D.view disk.new)

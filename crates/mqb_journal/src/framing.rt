@@ -1,5 +1,7 @@
-//! The block of a record: its length, its bytes, and the closed gate behind it. The record is spelled in it, and copied nowhere.
-ghost use Rattle.std.specs.Prelude.{◌≡◌, ◌+◌, ◌<◌, ◌≤◌, [], ◌∷◌, vec_len, vec_capacity, OnOk, OnErr};
+//! The block of a record: its length, its bytes, and the closed gate behind it. The record is
+//! spelled in it, and copied nowhere.
+ghost use Rattle.std.specs.Prelude.{◌≡◌, ◌+◌, ◌<◌, ◌≤◌, [], ◌∷◌, vec_len, vec_capacity};
+ghost use Rattle.std.specs.Prelude.{OnOk, OnErr};
 ghost use Rattle.mqb_journal.specs.Blocks.{IsBlock, record_of_block, spelled_in};
 ghost use Rattle.mqb_journal.specs.Store.{IsSmall};
 

@@ -1,4 +1,5 @@
-ghost use Rattle.std.specs.Prelude.{◌≡◌, ◌≢◌, ◌↔◌, ◌+◌, ◌^◌, ◌<◌, ◌≤◌, max, ℕ, List, [], ◌∷◌, ◌++◌, length, true, false, Err, IfOk, OnOk, OnErr};
+ghost use Rattle.std.specs.Prelude.{◌≡◌, ◌≢◌, ◌↔◌, ◌+◌, ◌^◌, ◌<◌, ◌≤◌, max, ℕ, List, [], ◌∷◌, ◌++◌};
+ghost use Rattle.std.specs.Prelude.{length, true, false, Err, IfOk, OnOk, OnErr};
 ghost use Rattle.mqb_outside.specs.Faults.{HasCause};
 ghost use Rattle.mqb_outside.specs.Images.{Each, Follows, Written};
 ghost use Rattle.mqb_outside.specs.Disk.{IsSettled, LeavesOnly, OnlyReads, Counted, AtMost};
@@ -26,7 +27,8 @@ use std::alloc::Global;
 use std::marker::Model;
 use std::mem::replace;
 
-/// The journal of one store. It is used with the disk on which it was formatted or begun, and nobody else writes that.
+/// The journal of one store. It is used with the disk on which it was formatted or begun, and
+/// nobody else writes that.
 #[derive(Debug, Drop)]
 pub struct Journal {
     pub(crate) alloc: Global,
@@ -63,7 +65,8 @@ impl Model for Journal {
 impl Journal {
     ghost use Rattle.mqb_journal.specs.Journals.{GoesOn, Lent, Refused};
 
-    /// Makes an empty disk a store without records. The first record of at most 128 bytes then needs no memory.
+    /// Makes an empty disk a store without records. The first record of at most 128 bytes
+    /// then needs no memory.
     pub fn format<D: Disk>(alloc: Global, disk: &mut D, guid: Guid) -> Result<Journal, OpenFault>
         ensures formatted { IfOk result (λ journal. GoesOn (D.view disk.new) journal Nothing []) }
         ensures wrote { OnOk result
@@ -105,7 +108,8 @@ impl Journal {
         })
     }
 
-    /// Begins to read the store on a disk, by what stands before its first gate. It reserves one buffer for the longest record, and room for the base.
+    /// Begins to read the store on a disk, by what stands before its first gate. It reserves one
+    /// buffer for the longest record, and room for the base.
     pub fn begin<D: Disk>(alloc: Global, disk: &mut D) -> Result<Scan, OpenFault>
         ensures begun { IfOk result (λ scan. (base : Base)
             × Lent (D.view disk.new) scan base [] × (scan.base ≡ bytes_in base)) }
@@ -179,12 +183,14 @@ impl Journal {
         ensures done { (base : Base) (records : List (List ℕ))
             → GoesOn (D.view disk.old) self.old base records
             → OnOk result (GoesOn (D.view disk.new) self.new base (records ++ entry.now ∷ [])) }
-        // The gate is opened, behind it stand the length, the record and a closed gate, and all else is as it was.
+        // The gate is opened, behind it stand the length, the record and a closed gate, and
+        // all else is as it was.
         ensures wrote { OnOk result (Follows (Written self.old.end (framed entry.now ++ 0 ∷ []))
             (D.view disk.old).reads (D.view disk.new).reads) }
         ensures settled { OnOk result (IsSettled (D.view disk.new)) }
 
-        // A crash at any moment of the call leaves the records from before it, with the new one or without.
+        // A crash at any moment of the call leaves the records from before it, with
+        // the new one or without.
         ensures moments { (base : Base) (records : List (List ℕ))
             → GoesOn (D.view disk.old) self.old base records
             → IsSettled (D.view disk.old)
@@ -228,7 +234,8 @@ impl Journal {
         }
     }
 
-    /// Adds the record of a closed block, by four calls of the disk. At `Ok` each crash from then on leaves it.
+    /// Adds the record of a closed block, by four calls of the disk. At `Ok` each crash
+    /// from then on leaves it.
     pub fn append_block<D: Disk>(&mut self, disk: &mut D, block: &[u8]) -> Result<(), Failed>
         requires up { self.old.down ≡ false }
         requires gate { Each (D.view disk.old).reads (λ c. self.old.end < length c) }
@@ -242,7 +249,8 @@ impl Journal {
             (D.view disk.old).reads (D.view disk.new).reads) }
         ensures settled { OnOk result (IsSettled (D.view disk.new)) }
 
-        // A crash at any moment of the call leaves the records from before it, with the new one or without.
+        // A crash at any moment of the call leaves the records from before it, with
+        // the new one or without.
         ensures moments { (base : Base) (records : List (List ℕ))
             → GoesOn (D.view disk.old) self.old base records
             → IsSettled (D.view disk.old)

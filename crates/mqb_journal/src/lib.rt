@@ -1,11 +1,14 @@
-//! The journal of a store: a header, and behind it a chain of records, each on the disk before it is acknowledged.
+//! The journal of a store: a header, and behind it a chain of records, each on the disk
+//! before it is acknowledged.
 //!
-//! A record stands behind a gate. A closed gate stands behind the last record, on the disk before anything is written behind it: a record is written
-//! behind the closed gate first, together with a closed gate of its own, and then the gate before it is opened by a write of its own. So a crash at
-//! any moment leaves the records from before, with the new one or without.
+//! A record stands behind a gate. A closed gate stands behind the last record, on the disk before
+//! anything is written behind it: a record is written behind the closed gate first, together with a
+//! closed gate of its own, and then the gate before it is opened by a write of its own. So a crash
+//! at any moment leaves the records from before, with the new one or without.
 //!
-//! A checkpoint writes a base in place of all records. All that it writes before one byte switches over lies where nothing that the store means
-//! stands. So a crash at any moment leaves the old base and records, or the new base and none.
+//! A checkpoint writes a base in place of all records. All that it writes before one byte switches
+//! over lies where nothing that the store means stands. So a crash at any moment leaves the old
+//! base and records, or the new base and none.
 #![tactic(auto)]
 
 mod checkpoint;

@@ -1,4 +1,5 @@
-ghost use Rattle.std.specs.Prelude.{◌≡◌, ◌≢◌, ◌+◌, ◌<◌, ◌≤◌, max, ℕ, length, vec_len, take, Err, IfOk};
+ghost use Rattle.std.specs.Prelude.{◌≡◌, ◌≢◌, ◌+◌, ◌<◌, ◌≤◌, max, ℕ, length, vec_len, take};
+ghost use Rattle.std.specs.Prelude.{Err, IfOk};
 ghost use Rattle.mqb_outside.specs.Images.{Each};
 ghost use Rattle.mqb_outside.specs.Disk.{OnlyReads, AtMost};
 ghost use Rattle.mqb_outside.specs.declared.disk.TheConstants.{MAX_DISK};
@@ -51,7 +52,8 @@ pub(crate) fn bytes_at<D: Disk>(
     Ok(bytes)
 }
 
-/// Reads the record behind this open gate into the front of a buffer, with the gate behind it. Answers its length, and whether that gate is open. The disk has `len` bytes.
+/// Reads the record behind this open gate into the front of a buffer, with the gate behind it.
+/// Answers its length, and whether that gate is open. The disk has `len` bytes.
 pub(crate) fn read_next<D: Disk>(
     disk: &mut D,
     gate: u64,

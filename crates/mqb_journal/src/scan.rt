@@ -1,4 +1,5 @@
-ghost use Rattle.std.specs.Prelude.{◌≡◌, ◌+◌, ◌<◌, ◌≤◌, max, ℕ, List, [], ◌∷◌, ◌++◌, length, take, vec_len, true, false, None, Err, IfOk, IfSome, OnOk};
+ghost use Rattle.std.specs.Prelude.{◌≡◌, ◌+◌, ◌<◌, ◌≤◌, max, ℕ, List, [], ◌∷◌, ◌++◌, length, take};
+ghost use Rattle.std.specs.Prelude.{vec_len, true, false, None, Err, IfOk, IfSome, OnOk};
 ghost use Rattle.mqb_outside.specs.Images.{Each};
 ghost use Rattle.mqb_outside.specs.Disk.{OnlyReads, AtMost};
 ghost use Rattle.mqb_outside.specs.declared.disk.TheConstants.{MAX_DISK};
@@ -22,7 +23,8 @@ use mqb_outside::Disk;
 use std::alloc::Global;
 use std::marker::Model;
 
-/// A store that is read one record at a time. It is used with the disk on which it was begun, and nobody writes that meanwhile.
+/// A store that is read one record at a time. It is used with the disk on which it was begun, and
+/// nobody writes that meanwhile.
 #[derive(Debug, Drop)]
 pub struct Scan {
     alloc: Global,
@@ -170,7 +172,8 @@ impl Scan {
         Ok(true)
     }
 
-    /// The next record, lent from the buffer. None exactly at a gate that is not open. After a fault the scan is used no more.
+    /// The next record, lent from the buffer. None exactly at a gate that is not open. After a
+    /// fault the scan is used no more.
     pub fn next<D: Disk>(&mut self, disk: &mut D) -> Result<Option<&[u8]>, ScanFault>
         requires going { self.old.ended ≡ false }
         requires long { Each (D.view disk.old).reads (λ c. self.old.len ≡ length c) }

@@ -67,8 +67,10 @@ end_of (purpose.Reach why peer) = Initiator
 abbrev pub peer_of : Manager → Option Guid
 peer_of m = option_and_then (λ session. session.peer) m.rest.session
 
--- The head of its capture: its end, itself, the peer that its session has at the end, and the window that it tells.
-pub record IsHeadOf (m : StoredManager) (asks : Purpose) (now : ℕ) (bytes : List ℕ) (h : Head) : Type 0 where
+-- The head of its capture: its end, itself, the peer that its session has at the end, and the
+-- window that it tells.
+pub record IsHeadOf (m : StoredManager) (asks : Purpose) (now : ℕ) (bytes : List ℕ)
+    (h : Head) : Type 0 where
   pub role : h.role ≡ end_of asks
   pub own : h.own ≡ m.manager.state.identity.guid
   pub peer : peer_of (read_on (opened m asks now) bytes).stored.manager ≡ Some h.peer
@@ -79,18 +81,26 @@ abbrev pub IsFromPeer : Head → Event → Type 0
 IsFromPeer h (Heard p) = IsBetween h (Heard p)
 IsFromPeer h _ = Unit {0}
 
--- The peer kept to what is demanded of the packets that were heard: of their origin and of their links.
+-- The peer kept to what is demanded of the packets that were heard: of their
+-- origin and of their links.
 pub record PeerKeeps (h : Head) (events : List Event) : Type 0 where
   pub between : AllByRecursion (IsFromPeer h) events
   pub linked : AreLinked (links way.Heard events)
 
--- Where a connection ends well and the peer kept to that, each capture of what was given and heard is lawful.
+-- Where a connection ends well and the peer kept to that, each capture of what was given
+-- and heard is lawful.
 abbrev pub ServedIsLawful : Type 0
-ServedIsLawful = (m : StoredManager) (asks : Purpose) (now : ℕ) (bytes : List ℕ) (h : Head) (capture : List ℕ) → MayServe m.manager → (served m asks now bytes).end ≡ Ok tt
-    → IsHeadOf m asks now bytes h → PeerKeeps h (events_of m asks now bytes) → IsCaptureOf h (events_of m asks now bytes) capture → IsLawful capture
+ServedIsLawful =
+    (m : StoredManager) (asks : Purpose) (now : ℕ) (bytes : List ℕ) (h : Head) (capture : List ℕ)
+    → MayServe m.manager → (served m asks now bytes).end ≡ Ok tt
+    → IsHeadOf m asks now bytes h → PeerKeeps h (events_of m asks now bytes)
+    → IsCaptureOf h (events_of m asks now bytes) capture → IsLawful capture
 
 -- So it is where serving, pushing or fetching is answered well, of all that was read.
 abbrev pub AnsweredIsLawful : Type 0
-AnsweredIsLawful = (m n : StoredManager) (asks : Purpose) (now : ℕ) (held held_now taken taken_now : Option (List ℕ)) (s : Serves asks now m n held held_now taken taken_now (Ok tt))
-    (h : Head) (capture : List ℕ) → MayServe m.manager → IsHeadOf m asks now s.read h → PeerKeeps h (events_of m asks now s.read)
+AnsweredIsLawful = (m n : StoredManager) (asks : Purpose) (now : ℕ)
+    (held held_now taken taken_now : Option (List ℕ))
+    (s : Serves asks now m n held held_now taken taken_now (Ok tt))
+    (h : Head) (capture : List ℕ) → MayServe m.manager → IsHeadOf m asks now s.read h
+    → PeerKeeps h (events_of m asks now s.read)
     → IsCaptureOf h (events_of m asks now s.read) capture → IsLawful capture

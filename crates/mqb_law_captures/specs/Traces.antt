@@ -1,6 +1,8 @@
--- What one end of a connection gave and heard, in its order: it hears packet by packet, and answers each.
+-- What one end of a connection gave and heard, in its order: it hears packet by
+-- packet, and answers each.
 use Rattle.std.specs.Option.{option_map_or}
-use Rattle.std.specs.Prelude.{[], ◌++◌, ◌∷◌, Err, List, Ok, Result, drop, if◌then◌else◌, is_some, length, map, ℕ}
+use Rattle.std.specs.Prelude.{[], ◌++◌, ◌∷◌, Err, List, Ok, Result, drop, if◌then◌else◌, is_some}
+use Rattle.std.specs.Prelude.{length, map, ℕ}
 use Rattle.mqb_fields.specs.declared.faults.HeadFault.{HeadFault}
 use Rattle.mqb_packet.specs.Parts.{PacketParts, packet_of}
 use Rattle.mqb_packet.specs.Spelled.{packet_in}
@@ -35,7 +37,8 @@ heard_at c byte = if is_some c.end then [] else heard_in (next (holding c (byte 
 -- each packet that these bytes are, and what is given once it was heard
 abbrev pub events_from : Conversation → List ℕ → List Event
 events_from c [] = []
-events_from c (byte ∷ bytes) = heard_at c byte ++ given_since c (byte_read c byte) ++ events_from (byte_read c byte) bytes
+events_from c (byte ∷ bytes) =
+    heard_at c byte ++ given_since c (byte_read c byte) ++ events_from (byte_read c byte) bytes
 
 -- all that one end gives and hears of a connection that brings these bytes
 abbrev pub events_of : StoredManager → Purpose → ℕ → List ℕ → List Event

@@ -4,7 +4,8 @@ use Rattle.mqb_network.specs.Choices.{Choice, Fails, Unread}
 use Rattle.mqb_network.specs.Events.{Event}
 use Rattle.mqb_network.specs.Events as event
 
--- No disk fails. A manager that was down is started over what its store has, with the record in doubt or without it.
+-- No disk fails. A manager that was down is started over what its store has, with the record in
+-- doubt or without it.
 abbrev pub is_good : Choice → Bool
 is_good (Fails before how) = false
 is_good Unread = false

@@ -38,21 +38,27 @@ IsSpelled sequence = sequence.stamp < 4294967296
 abbrev pub AreStamped : State → Type 0
 AreStamped s = All (λ row. IsSpelled row.sequence) s.outs
 
--- Behind any run, between each two managers, at any moment: both are started, and meet as often as there is work. Then this holds of the course and of the two.
+-- Behind any run, between each two managers, at any moment: both are started, and meet as often as
+-- there is work. Then this holds of the course and of the two.
 abbrev pub BehindMeetings : (Course → ℕ → ℕ → Type 0) → Type 0
-BehindMeetings P = (known : List Identity) (before ms : List Move) (a b now : ℕ) → AreInOrder known → All (λ m. IsDraftedEvent m.event) before → IsRun known before
+BehindMeetings P = (known : List Identity) (before ms : List Move) (a b now : ℕ) → AreInOrder known
+    → All (λ m. IsDraftedEvent m.event) before → IsRun known before
     → a < length known → b < length known → (a ≡ b → ⊥) → Starts (after_run known before) ms a b
-    → AreStamped (manager_at (course_after (after_run known before) ms).network a).state → AreStamped (manager_at (course_after (after_run known before) ms).network b).state
+    → AreStamped (manager_at (course_after (after_run known before) ms).network a).state
+    → AreStamped (manager_at (course_after (after_run known before) ms).network b).state
     → P (met (course_after (after_run known before) ms) a b now) a b
 
 -- Nothing waits between them.
 abbrev pub Recovers : Type 0
 Recovers = BehindMeetings (λ c a b. IsDrained c.network a b)
 
--- Each message that the first committed to a name that leads to the second was decided where its row leads, or it expired.
+-- Each message that the first committed to a name that leads to the second was decided where its
+-- row leads, or it expired.
 abbrev pub AreDelivered : Course → ℕ → ℕ → Type 0
-AreDelivered c a b = (m : Commitment) (k : ℕ) → In m (commitments (written_of a c.written)) → resolved (manager_at c.network a).state m.message.destination ≡ AtPeer k
-    → peer_known (manager_at c.network a).state (manager_at c.network b).state.identity.guid ≡ Some k
+AreDelivered c a b = (m : Commitment) (k : ℕ) → In m (commitments (written_of a c.written))
+    → resolved (manager_at c.network a).state m.message.destination ≡ AtPeer k
+    → peer_known (manager_at c.network a).state (manager_at c.network b).state.identity.guid
+    ≡ Some k
     → WasDecidedThere c a m ⊎ In m.position (expiries_told (lines_written (written_of a c.written)))
 
 -- So it is.
@@ -61,9 +67,12 @@ Delivers = BehindMeetings AreDelivered
 
 -- What the first still keeps for the second stands in a queue there: its fate is still to come.
 abbrev pub IsForgotten : Network → ℕ → ℕ → Type 0
-IsForgotten n a b = (row : Row) (k : Kept) → In row (manager_at n a).state.outs → peer_known (manager_at n a).state (manager_at n b).state.identity.guid ≡ Some row.peer → In k row.kept
+IsForgotten n a b = (row : Row) (k : Kept) → In row (manager_at n a).state.outs
+    → peer_known (manager_at n a).state (manager_at n b).state.identity.guid ≡ Some row.peer
+    → In k row.kept
     → IsHeld n b k.message.id
 
--- So it is, where the second has a number left for a final acknowledgement: nothing else is kept for ever.
+-- So it is, where the second has a number left for a final acknowledgement: nothing
+-- else is kept for ever.
 abbrev pub Forgets : Type 0
 Forgets = BehindMeetings (λ c a b. (manager_at c.network b).state.next_number ≤ MAX_NUMBER → IsForgotten c.network a b)

@@ -1,6 +1,7 @@
 -- The law of recovery for any number of managers.
 use Rattle.std.specs.List.{range_with_len}
-use Rattle.std.specs.Prelude.{[], ◌++◌, ◌<◌, ◌≡◌, All, List, flat_map, length, map, suc, sum, true, zero, ℕ}
+use Rattle.std.specs.Prelude.{[], ◌++◌, ◌<◌, ◌≡◌, All, List, flat_map, length, map, suc, sum, true}
+use Rattle.std.specs.Prelude.{zero, ℕ}
 use Rattle.mqb_base.specs.declared.ids.Identity.{Identity}
 use Rattle.mqb_history.specs.Drafted.{AreInOrder, IsDraftedEvent}
 use Rattle.mqb_network.specs.Courses.{Course}
@@ -45,11 +46,12 @@ pub record AllStart (c : Course) (ms : List Move) : Type 0 where
   pub good : All (λ m. is_good m.choice ≡ true) ms
   pub run : IsRunFrom c ms
 
--- Behind any run of any number of managers, at any moment: all are started, and there are two rounds.
--- Then this holds of the course and of each two of them.
+-- Behind any run of any number of managers, at any moment: all are started, and there are two
+-- rounds. Then this holds of the course and of each two of them.
 abbrev pub BehindRounds : (Course → ℕ → ℕ → Type 0) → Type 0
 BehindRounds P = (known : List Identity) (before ms : List Move) (now : ℕ) → AreInOrder known
-    → All (λ m. IsDraftedEvent m.event) before → IsRun known before → AllStart (after_run known before) ms
+    → All (λ m. IsDraftedEvent m.event) before → IsRun known before
+    → AllStart (after_run known before) ms
     → All (λ m. AreStamped m.state) (course_after (after_run known before) ms).network.managers
     → (a b : ℕ) → a < length known → b < length known → (a ≡ b → ⊥)
     → P (all_met (course_after (after_run known before) ms) now) a b
@@ -58,7 +60,7 @@ BehindRounds P = (known : List Identity) (before ms : List Move) (now : ℕ) →
 abbrev pub AllRecover : Type 0
 AllRecover = BehindRounds (λ c a b. IsDrained c.network a b)
 
--- Each message that one committed to a name that leads to another one was decided where its row leads,
--- or it expired.
+-- Each message that one committed to a name that leads to another one was decided where its row
+-- leads, or it expired.
 abbrev pub AllDeliver : Type 0
 AllDeliver = BehindRounds AreDelivered

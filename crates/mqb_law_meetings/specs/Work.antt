@@ -12,7 +12,8 @@ use Rattle.mqb_network.specs.Scripts.{well}
 use Rattle.mqb_plain.specs.Lists.{messages_of}
 use Rattle.mqb_plain.specs.Plain.{PlainLists}
 
--- A message is one packet, and may bring two notices: an administration message and a final acknowledgement. A notice brings none.
+-- A message is one packet, and may bring two notices: an administration message and a final
+-- acknowledgement. A notice brings none.
 abbrev pub work_for : Message → ℕ
 work_for m = if is_ordinary m then 3 else 1
 

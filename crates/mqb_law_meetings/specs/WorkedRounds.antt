@@ -46,8 +46,8 @@ one_told = well (event.Asks 0 (CreateQueue (plan (codes "orders") true 100 false
 abbrev pub all_started : Course
 all_started = course_after (after_run trio one_told) (map well (all_start 3))
 
--- Alpha hears from gamma when it has met beta. So behind one round it has the notice still, and behind
--- two beta has it in its queue.
+-- Alpha hears from gamma when it has met beta. So behind one round it has the notice still, and
+-- behind two beta has it in its queue.
 pub record OneRoundIsNotEnough : Type 0 where
   pub run : IsRun trio one_told
   pub counted : work_of_all all_started.network ≡ 3

@@ -1,5 +1,6 @@
 -- That no manager is ever stuck in a connection, in three parts.
-use Rattle.std.specs.Prelude.{◌<◌, ◌≡◌, ◌≤◌, ◌⊎◌, All, IfSome, Option, Some, false, filter, length, nat_lt, replicate, slice_get, true, ℕ}
+use Rattle.std.specs.Prelude.{◌<◌, ◌≡◌, ◌≤◌, ◌⊎◌, All, IfSome, Option, Some, false, filter, length}
+use Rattle.std.specs.Prelude.{nat_lt, replicate, slice_get, true, ℕ}
 use Rattle.mqb_base.specs.Sequences.{earlier}
 use Rattle.mqb_base.specs.declared.ids.Identity.{Identity}
 use Rattle.mqb_exactly_once.specs.Words.{In}
@@ -34,9 +35,11 @@ pub record HasSentNothing (m : Manager) : Type 0 where
   pub cursors : m.rest.cursors ≡ replicate (length m.state.outs) 0
   pub unsent : All IsUnsent m.state.plain
 
--- Whatever is outstanding for the peer of a new connection, a packet goes: no sequence waits for another one for ever, and no message for one that cannot go.
+-- Whatever is outstanding for the peer of a new connection, a packet goes: no sequence waits for
+-- another one for ever, and no message for one that cannot go.
 abbrev pub SomethingGoes : Type 0
-SomethingGoes = (m : Manager) (session : one_end.State) (now : ℕ) → MaySend m session → HasSentNothing m → is_outstanding m ≡ true
+SomethingGoes = (m : Manager) (session : one_end.State) (now : ℕ) → MaySend m session
+    → HasSentNothing m → is_outstanding m ≡ true
     → 0 < length (pump m now).packets
 
 -- It is no gap where it arrives.
@@ -51,7 +54,8 @@ pub record HasDecided (row : Row) (there : Option InRow) : Type 0 where
   pub acknowledged : row.acked ≤ decided there row.sequence
   pub none_later : IfSome there (λ r. earlier row.sequence r.sequence ≡ false)
 
--- The first number that is not acknowledged is next at such a receiver, or was decided. In either case it is acknowledged.
+-- The first number that is not acknowledged is next at such a receiver, or was decided. In either
+-- case it is acknowledged.
 abbrev pub FirstIsNoGap : Type 0
 FirstIsNoGap = (row : Row) (k : Kept) (there : Option InRow) → IsFirst row k → HasDecided row there
     → (verdict_of there (tx_of row k) ≡ Next) ⊎ (verdict_of there (tx_of row k) ≡ Duplicate)
@@ -64,5 +68,6 @@ unacknowledged row = length (filter (λ k. nat_lt row.acked k.number) row.kept)
 
 -- An acknowledgement of a kept number, or of one above it, leaves fewer that are not.
 abbrev pub AcknowledgingFalls : Type 0
-AcknowledgingFalls = (row : Row) (k : Kept) (number : ℕ) → In k row.kept → row.acked < k.number → k.number ≤ number
+AcknowledgingFalls =
+    (row : Row) (k : Kept) (number : ℕ) → In k row.kept → row.acked < k.number → k.number ≤ number
     → unacknowledged (acknowledged number row) < unacknowledged row

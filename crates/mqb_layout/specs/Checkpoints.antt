@@ -1,5 +1,6 @@
 -- What a checkpoint writes, and where.
-use Rattle.std.specs.Prelude.{ℕ, ◌+◌, ◌-◌, ◌/◌, not, if◌then◌else◌, List, [], ◌∷◌, ◌++◌, length, replicate, Option, Some, None}
+use Rattle.std.specs.Prelude.{ℕ, ◌+◌, ◌-◌, ◌/◌, not, if◌then◌else◌, List, [], ◌∷◌, ◌++◌, length}
+use Rattle.std.specs.Prelude.{replicate, Option, Some, None}
 use Rattle.mqb_fields.specs.Writing.{bytes_of}
 use Rattle.mqb_layout.specs.Store.{area, place_told}
 use Rattle.mqb_layout.specs.declared.layout.Layout.{Layout}
@@ -14,9 +15,12 @@ head place = 0 ∷ (bytes_of 8 place ++ bytes_of 8 place)
 abbrev pub closed_area : ℕ → List ℕ → List ℕ
 closed_area count base = area count base ++ 0 ∷ []
 
--- what is written first: the area; behind a store of version 1 with what stands before it, up to the page and a head
+-- what is written first: the area; behind a store of version 1 with what stands before it, up
+-- to the page and a head
 abbrev pub block_for : Option Layout → (end count : ℕ) → List ℕ → List ℕ
-block_for None end count base = let l : Layout = layout_then None end (length base) in replicate (l.head - (end + 1)) 0 ++ head l.place ++ closed_area count base
+block_for None end count base =
+    let l : Layout = layout_then None end (length base) in
+    replicate (l.head - (end + 1)) 0 ++ head l.place ++ closed_area count base
 block_for (Some l) end count base = closed_area count base
 
 -- and where
@@ -24,7 +28,8 @@ abbrev pub block_place : Option Layout → (end base : ℕ) → ℕ
 block_place None end base = end + 1
 block_place (Some l) end base = (layout_then (Some l) end base).place
 
--- what is written beside it: in how many pages the head stands; or the place of the area, where the head tells that of the one not in use
+-- what is written beside it: in how many pages the head stands; or the place of the area, where the
+-- head tells that of the one not in use
 abbrev pub mark_for : Option Layout → (end base : ℕ) → List ℕ
 mark_for None end base = bytes_of 3 ((layout_then None end base).head / PAGE)
 mark_for (Some l) end base = bytes_of 8 (layout_then (Some l) end base).place

@@ -1,4 +1,5 @@
-ghost use Rattle.std.specs.Prelude.{◌≡◌, ◌≢◌, ◌+◌, ◌<◌, ◌≤◌, [], ◌∷◌, ◌++◌, true, false, take, drop, slice_index};
+ghost use Rattle.std.specs.Prelude.{◌≡◌, ◌≢◌, ◌+◌, ◌<◌, ◌≤◌, [], ◌∷◌, ◌++◌, true, false, take};
+ghost use Rattle.std.specs.Prelude.{drop, slice_index};
 ghost use Rattle.mqb_fields.specs.Reading.{number_of};
 ghost use Rattle.mqb_fields.specs.Guids.{swapped};
 ghost use Rattle.mqb_layout.specs.Store.{MAGIC, header, part};

@@ -1,5 +1,6 @@
-//! How a store lies on a disk: its header, its head, its areas and its gates, what a checkpoint writes of them and where, and the reads of each. What
-//! the records and bases are, and what a crash leaves of them, is for `mqb_journal`.
+//! How a store lies on a disk: its header, its head, its areas and its gates, what a checkpoint
+//! writes of them and where, and the reads of each. What the records and bases are, and what a
+//! crash leaves of them, is for `mqb_journal`.
 #![tactic(auto)]
 
 mod block;

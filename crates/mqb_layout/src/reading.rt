@@ -1,4 +1,5 @@
-ghost use Rattle.std.specs.Prelude.{◌≡◌, ◌+◌, ◌^◌, ◌<◌, ◌≤◌, max, ℕ, ◌∷◌, ◌++◌, length, take, drop, IfOk, OnOk};
+ghost use Rattle.std.specs.Prelude.{◌≡◌, ◌+◌, ◌^◌, ◌<◌, ◌≤◌, max, ℕ, ◌∷◌, ◌++◌, length, take, drop};
+ghost use Rattle.std.specs.Prelude.{IfOk, OnOk};
 ghost use Rattle.mqb_fields.specs.Reading.{number_of};
 ghost use Rattle.mqb_fields.specs.Writing.{bytes_of};
 ghost use Rattle.mqb_outside.specs.Faults.{HasCause};
@@ -64,7 +65,8 @@ pub fn number_at<D: Disk>(disk: &mut D, at: u64) -> Result<u32, Failed>
     Ok(number_of(buf))
 }
 
-/// Reads n bytes and the gate behind them into the front of a buffer, and answers whether that is open.
+/// Reads n bytes and the gate behind them into the front of a buffer, and answers
+/// whether that is open.
 pub fn fill<D: Disk>(disk: &mut D, at: u64, n: usize, buffer: &mut [u8]) -> Result<bool, Failed>
     requires there { Each (D.view disk.old).reads (λ c. at + n < length c) }
     requires room { n < length buffer.old }

@@ -31,7 +31,8 @@ place_line hosts host place held = host_line host (place ++ held_text hosts held
 -- the line of a queue, and that of its journal where it keeps one
 unfoldable pub queue_lines : List Identity → List ℕ → Queue → List ℕ
 queue_lines hosts host q = place_line hosts host (codes "queue " ++ q.plan.name) q.lists
-    ++ (if q.plan.journal then place_line hosts host (codes "journalof " ++ q.plan.name) q.journal else [])
+    ++ (if q.plan.journal then place_line hosts host (codes "journalof " ++ q.plan.name) q.journal
+    else [])
 
 -- the lines of the places that every manager has
 unfoldable pub machine_lines : List Identity → List ℕ → Places → List ℕ
@@ -43,12 +44,14 @@ machine_lines hosts host s = place_line hosts host (codes "dead") s.dead
 unfoldable pub route_text : QueueName → List ℕ → List ℕ
 route_text destination numbers = spaced (printed destination) ++ numbers_text numbers
 
--- the line of an outgoing row: its ordinal, where it leads, and how far it was committed, offered and acknowledged
+-- the line of an outgoing row: its ordinal, where it leads, and how far it was committed,
+-- offered and acknowledged
 unfoldable pub out_line : List ℕ → Row → List ℕ
 out_line host row = host_line host (codes "out " ++ decimal row.sequence.ordinal
     ++ route_text row.destination (row.committed ∷ row.offered ∷ row.acked ∷ []))
 
--- the line of an incoming row: its source, where it leads, its ordinal, and the last number that was decided
+-- the line of an incoming row: its source, where it leads, its ordinal, and the last
+-- number that was decided
 unfoldable pub in_line : List Identity → List ℕ → InRow → List ℕ
 in_line hosts host row = host_line host (codes "in " ++ manager_text hosts row.source
     ++ route_text row.destination (row.sequence.ordinal ∷ row.last ∷ []))

@@ -21,7 +21,8 @@ fn put_listing(printer: &mut Printer<'_>, contents: &Contents) -> Result<(), Mem
     put_ins(printer, host, contents.ins())
 }
 
-/// Appends the lines of a manager. It and its peers are printed as their hosts, any other manager as its GUID. After a refusal `out` is as before.
+/// Appends the lines of a manager. It and its peers are printed as their hosts, any other manager
+/// as its GUID. After a refusal `out` is as before.
 #[tactic(auto, using(mqb_transcript::specs::lemmas::Wrote::text_wrote))]
 pub fn print(alloc: Global, contents: &Contents, out: &mut Vec<u8>) -> Result<(), Memory>
     ensures ok { OnOk result (out.new.items ≡ out.old.items ++ listing contents.now.lists) }

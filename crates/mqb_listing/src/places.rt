@@ -1,7 +1,8 @@
 ghost use Rattle.std.specs.List.{flat_map};
 ghost use Rattle.std.specs.Option.{option_map_or};
 ghost use Rattle.std.specs.Prelude.{◌≡◌, ◌<◌, ◌≤◌, ◌++◌, [], length, slice_get, OnOk};
-ghost use Rattle.mqb_listing.specs.Lines.{held_text, ids_text, machine_lines, place_line, queue_lines};
+ghost use Rattle.mqb_listing.specs.Lines.{held_text, ids_text, machine_lines};
+ghost use Rattle.mqb_listing.specs.Lines.{place_line, queue_lines};
 ghost use Rattle.mqb_base.specs.declared.roomed.TheConstants.{MAX_MEMBERS};
 ghost use Rattle.mqb_queue.specs.Places.{lists_at};
 ghost use Rattle.mqb_transcript.specs.Printing.{wrote};

@@ -1,4 +1,5 @@
--- The call checkpoint of a manager on its store: the state is written anew as one base, and the manager stays as it is.
+-- The call checkpoint of a manager on its store: the state is written anew as one base, and the
+-- manager stays as it is.
 use Rattle.std.specs.Prelude.{◌≡◌, ◌⊎◌, Err, None, Result, true, ℕ}
 use Rattle.mqb_outside.specs.Disk.{AtMost, IsSettled, LeavesOnly, View}
 use Rattle.mqb_outside.specs.Images.{Each}
@@ -27,16 +28,21 @@ pub record FailsWithout (m n : ManagerState) : Type 0 where
 
 -- It ends as its definition does, or it wants memory and leaves everything, or its disk fails.
 abbrev pub EndsCheckpoint : ManagerState → ManagerState → Result (Unit {0}) CheckpointFault → Type 0
-EndsCheckpoint m n r = ((r ≡ (checkpoint_of m).answer) × Succeeds m n (checkpoint_of m)) ⊎ ((r ≡ Err fault.Memory) × IsSame m n)
+EndsCheckpoint m n r = ((r ≡ (checkpoint_of m).answer) × Succeeds m n (checkpoint_of m))
+    ⊎ ((r ≡ Err fault.Memory) × IsSame m n)
     ⊎ ((r ≡ Err fault.DiskFault) × FailsWithout m n)
 
--- A checkpoint, from before it to behind it. A crash at any moment of it, and behind it however it ends, leaves the state from before it, which is the state after it.
-pub record IsCheckpoint (d e : View) (m n : ManagerState) (r : Result (Unit {0}) CheckpointFault) : Type 0 where
+-- A checkpoint, from before it to behind it. A crash at any moment of it, and behind it however it
+-- ends, leaves the state from before it, which is the state after it.
+pub record IsCheckpoint (d e : View) (m n : ManagerState)
+    (r : Result (Unit {0}) CheckpointFault) : Type 0 where
   pub ends : EndsCheckpoint m n r
   pub on : IsOnDisk d m → IsUp n → IsOnDisk e n
   pub settled : IsOnDisk d m → IsSettled d → IsUp n → IsSettled e
-  pub moments : IsOnDisk d m → IsSettled d → LeavesOnly d e (Opens m.store.journal m.store.state None)
-  pub doubt : IsOnDisk d m → IsSettled d → (IsUp n → ⊥) → Each e.leaves (Opens n.store.journal n.store.state (record_of n.store.entry))
+  pub moments : IsOnDisk d m → IsSettled d
+      → LeavesOnly d e (Opens m.store.journal m.store.state None)
+  pub doubt : IsOnDisk d m → IsSettled d → (IsUp n → ⊥)
+      → Each e.leaves (Opens n.store.journal n.store.state (record_of n.store.entry))
   pub most : AtMost 7 d.calls e.calls
   pub rose : r ≡ Err fault.DiskFault → Rose d.faults e.faults
   pub stayed : (r ≡ Err fault.DiskFault → ⊥) → e.faults ≡ d.faults

@@ -12,5 +12,6 @@ pub record KeepsDisk (d e : View) (m n : ManagerState) : Type 0 where
   pub up : IsUp n → IsUp m
   pub on : (IsUp m → IsOnDisk d m) → IsUp n → IsOnDisk e n
   pub settled : (IsUp m → IsOnDisk d m) → IsSettled d → IsUp n → IsSettled e
-  pub doubt : IsUp m → IsOnDisk d m → IsSettled d → (IsUp n → ⊥) → Each e.leaves (Opens n.store.journal n.store.state (record_of n.store.entry))
+  pub doubt : IsUp m → IsOnDisk d m → IsSettled d → (IsUp n → ⊥)
+      → Each e.leaves (Opens n.store.journal n.store.state (record_of n.store.entry))
   pub switch : e.switch ≡ d.switch

@@ -1,5 +1,6 @@
 -- How a pump goes, step by step.
-use Rattle.std.specs.Prelude.{[], ◌++◌, ◌∷◌, ◌≡◌, All, Bool, Err, IsSomeAnd, List, None, OnErr, OnOk, Result, Some, flat_map, fold, map, slice_get, ℕ}
+use Rattle.std.specs.Prelude.{[], ◌++◌, ◌∷◌, ◌≡◌, All, Bool, Err, IsSomeAnd, List, None, OnErr}
+use Rattle.std.specs.Prelude.{OnOk, Result, Some, flat_map, fold, map, slice_get, ℕ}
 use Rattle.mqb_base.specs.declared.heads.SessionHead.{SessionHead}
 use Rattle.mqb_outside.specs.Disk.{View}
 use Rattle.mqb_packet.specs.Plain.{plain_spelling}
@@ -34,11 +35,14 @@ sent_as choice = (origin_of choice.origin, choice.head)
 -- each packet can be noted in its turn
 abbrev pub CanNoteAll : ℕ → State → List (Origin × SessionHead) → Type 0
 CanNoteAll peer s [] = Unit {0}
-CanNoteAll peer s (given ∷ sent) = CanNote peer given.1 s given.0 × CanNoteAll peer (noted peer s given) sent
+CanNoteAll peer s (given ∷ sent) =
+    CanNote peer given.1 s given.0 × CanNoteAll peer (noted peer s given) sent
 
 -- a manager that sent these packets to the peer at an index
 abbrev pub with_sent : ManagerState → ℕ → Going → List ℕ → List Bool → ManagerState
-with_sent m peer g cursors owes = seen (record m.store { state = fold (noted peer) m.store.state (map sent_as g.choices) }) (Some g.session) cursors owes
+with_sent m peer g cursors owes =
+    seen (record m.store { state = fold (noted peer) m.store.state (map sent_as g.choices) })
+    (Some g.session) cursors owes
 
 -- whatever could go from a session to the peer at an index
 abbrev pub waiting_for : ManagerState → one_end.State → ℕ → ℕ → List Candidate
@@ -50,7 +54,8 @@ going_to m session now k = chosen_to m.store.state session m.cursors m.owes now 
 
 -- They go, as it was planned.
 abbrev pub IsPlanned : ManagerState → one_end.State → ℕ → ℕ → Going → List ℕ → List Bool → Type 0
-IsPlanned m session now k g cursors owes = plans.IsPlanned m.store.state session m.cursors m.owes now k g cursors owes
+IsPlanned m session now k g cursors owes =
+    plans.IsPlanned m.store.state session m.cursors m.owes now k g cursors owes
 
 -- A manager that is up, on a disk, with its end of a session.
 pub record IsLinkedOn (d : View) (m : ManagerState) (end : one_end.State) : Type 0 where
@@ -61,10 +66,12 @@ pub record IsLinkedOn (d : View) (m : ManagerState) (end : one_end.State) : Type
 -- A pump comes to sending them.
 abbrev pub ComesToSend : ManagerState → one_end.State → ℕ → ℕ → Type 0
 ComesToSend m session now k = IsSomeAnd (slice_get m.store.state.peers k)
-    (λ to. pump (manager_of m) now ≡ sending_all (manager_of m) now session k to.guid (going_to m session now k))
+    (λ to. pump (manager_of m) now
+    ≡ sending_all (manager_of m) now session k to.guid (going_to m session now k))
 
 -- How a pump ends that comes to an outcome. `kept` says that the disk is as it was.
-pub record IsPumped (d e : View) (kept : Type 0) (m n : ManagerState) (o : PumpOutcome) (before after : List ℕ) (r : Result ℕ PumpFault) : Type 0 where
+pub record IsPumped (d e : View) (kept : Type 0) (m n : ManagerState) (o : PumpOutcome)
+    (before after : List ℕ) (r : Result ℕ PumpFault) : Type 0 where
   pub call : IsCall fault.Memory fault.DiskFault d e m n o r
   pub sent : OnOk r (after ≡ before ++ flat_map plain_spelling o.packets)
   -- what went can be read back: its numbers fit their types

@@ -7,8 +7,8 @@ use Rattle.mqb_session.specs.State as one_end
 use Rattle.mqb_store.specs.States as stores
 use Rattle.mqb_store.specs.States.{IsSameStore, IsStoredOn, StoreState}
 
--- its store; and what it knows of a connection alone: its end of the session, for each outgoing row the number that was sent last in it, and for each
--- incoming row whether an acknowledgement is owed
+-- its store; and what it knows of a connection alone: its end of the session, for each outgoing row
+-- the number that was sent last in it, and for each incoming row whether an acknowledgement is owed
 pub record ManagerState : Type 0 where
   pub store : StoreState
   pub session : Option one_end.State

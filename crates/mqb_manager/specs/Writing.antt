@@ -13,7 +13,8 @@ use Rattle.mqb_store.specs.declared.faults.WriteFault.TheVariants as fault
 use Rattle.mqb_manager.specs.Calls.{CallsForRecord, IsCall}
 use Rattle.mqb_manager.specs.States.{IsOnDisk, IsUp, ManagerState, manager_of}
 
--- the outcome of a call that writes a record, where there is one, and leaves what is known of the connection
+-- the outcome of a call that writes a record, where there is one, and leaves what is
+-- known of the connection
 abbrev pub outcome_by : {A : Type 0} → Manager → Option Record → Beside → A → Outcome A
 outcome_by m r b answer = record {
   answer = answer;
@@ -37,14 +38,16 @@ pub record IsReady (d : View) (m : ManagerState) (entry : Option Entry) (b : Bes
   pub stored : LeavesStore m.store.state entry b
 
 -- How this is written. `kept` says that the disk is as it was.
-pub record WritesEntry (d e : View) (kept : Type 0) (m n : ManagerState) (entry : Option Entry) (b : Beside) (r : Result (Unit {0}) WriteFault) : Type 0 where
+pub record WritesEntry (d e : View) (kept : Type 0) (m n : ManagerState) (entry : Option Entry)
+    (b : Beside) (r : Result (Unit {0}) WriteFault) : Type 0 where
   pub call : IsCall fault.Memory fault.DiskFault d e m n (write_of (manager_of m) entry b) r
   pub untouched : entry ≡ None → kept
   pub memory : r ≡ Err fault.Memory → kept
   pub calls : CallsForRecord d e entry r
 
 -- what a call answers whose record was written or not
-abbrev pub answered : {V E : Type 0} → Result (Unit {0}) WriteFault → V → (memory broken : E) → Result V E
+abbrev pub answered : {V E : Type 0} → Result (Unit {0}) WriteFault → V → (memory broken : E)
+    → Result V E
 answered (Ok done) value memory broken = Ok value
 answered (Err fault.Memory) value memory broken = Err memory
 answered (Err fault.DiskFault) value memory broken = Err broken

@@ -1,7 +1,8 @@
 //! The call `pump`: which packets go, and what is known once they went.
 //!
-//! Room for their bytes is made before the disk is called, since that takes memory. Where a mark rises it is recorded, and only then are the packets spelled.
-//! That, and what is noted behind it, takes no memory.
+//! Room for their bytes is made before the disk is called, since that takes memory. Where a mark
+//! rises it is recorded, and only then are the packets spelled. That, and what is noted behind
+//! it, takes no memory.
 ghost use Rattle.std.specs.Prelude.{[], ◌∷◌, ◌++◌, ◌<◌, ◌≡◌, ◌≤◌, ◌==◌, All, Err, None, OnErr, OnOk, flat_map, length, nat_lt, not};
 ghost use Rattle.mqb_choosing.specs.Going.{any_waits};
 ghost use Rattle.mqb_heads.specs.declared.base.TheConstants.{MAX_PACKET};

@@ -72,11 +72,13 @@ fn ring(alloc: Global, text: &[u8]) -> Result<Option<RingScript>, ScriptFault> {
 
 /// The line that says how many managers there are, how many, the ends of a connection, and whose it is that ends.
 fn ends(ring: &Option<RingScript>) -> Option<[u32; 5]> {
-    let Some(RingScript {
-        line,
-        count,
-        script,
-    }) = ring
+    let Some(
+        RingScript {
+            line,
+            count,
+            script,
+        },
+    ) = ring
     else {
         return None;
     };
@@ -118,7 +120,11 @@ static NO_RINGS: [(&[u8], u32, LineKind); 10] = [
     (b"managers 9\n", 1, LineKind::Value),
     (b"managers 2\nmanagers 2\n", 2, LineKind::Word),
     (b"managers 3\nresend m9\n", 2, LineKind::Value),
-    (b"managers 2\nconnect m1 m1 1000 64 64\n", 2, LineKind::Value),
+    (
+        b"managers 2\nconnect m1 m1 1000 64 64\n",
+        2,
+        LineKind::Value,
+    ),
     (b"managers 2\ndisconnect\n", 2, LineKind::Count),
 ];
 

@@ -1,6 +1,7 @@
 -- Words on lists.
 use Rattle.std.specs.Option.{option_map_or}
-use Rattle.std.specs.Prelude.{◌++◌, ◌+◌, ◌-◌, Bool, List, Option, length, option_and_then, option_map, position, remove, replicate, slice_get, slice_set, ℕ}
+use Rattle.std.specs.Prelude.{◌++◌, ◌+◌, ◌-◌, Bool, List, Option, length, option_and_then}
+use Rattle.std.specs.Prelude.{option_map, position, remove, replicate, slice_get, slice_set, ℕ}
 
 -- the number, from 1, of a member at an index
 abbrev pub number_at : Option ℕ → Option ℕ

@@ -10,7 +10,8 @@ use Rattle.mqb_model.specs.Typed.{IsTyped}
 
 -- The message of a user packet that bytes spell can be carried in a packet without further headers.
 abbrev pub PacketsAreRead : Type 0
-PacketsAreRead = (bytes : List ℕ) (p : UserPacket) → IsBytes bytes → user_packet_of bytes ≡ Some p → IsRecorded p.message
+PacketsAreRead = (bytes : List ℕ) (p : UserPacket) → IsBytes bytes → user_packet_of bytes ≡ Some p
+    → IsRecorded p.message
 
 -- The record that an entry is was read.
 abbrev pub EntriesAreRead : Type 0

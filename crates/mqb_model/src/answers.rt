@@ -3,7 +3,8 @@ ghost use Rattle.std.specs.Prelude.{◌≡◌};
 use mqb_base::{Message, MessageId, SequenceId};
 use std::marker::Model;
 
-/// What became of one op of a transaction: its message joined a sequence under a number, was put into a queue here, or was taken.
+/// What became of one op of a transaction: its message joined a sequence under a number, was put
+/// into a queue here, or was taken.
 #[derive(Debug, PartialEq, Eq, Drop)]
 pub enum Done {
     Sent {

@@ -1,7 +1,8 @@
 use mqb_base::Memory;
 use thiserror::Error;
 
-/// Why no peer was added, the first reason that holds. Nothing has changed, but after `DiskFault` the manager is down.
+/// Why no peer was added, the first reason that holds. Nothing has changed, but after `DiskFault`
+/// the manager is down.
 #[derive(Clone, Copy, Debug, PartialEq, Eq, Error)]
 pub enum AddPeerFault {
     #[error("the manager is down")]
@@ -16,7 +17,8 @@ pub enum AddPeerFault {
     DiskFault,
 }
 
-/// Why no queue was made, the first reason that holds. Nothing has changed, but after `DiskFault` the manager is down.
+/// Why no queue was made, the first reason that holds. Nothing has changed, but after `DiskFault`
+/// the manager is down.
 #[derive(Clone, Copy, Debug, PartialEq, Eq, Error)]
 pub enum CreateFault {
     #[error("the manager is down")]
@@ -48,7 +50,8 @@ pub enum OpFault {
     SequenceSpent,
 }
 
-/// Why no transaction was made, the first reason that holds. Nothing has changed, but after `DiskFault` the manager is down. `index` counts ops from 0.
+/// Why no transaction was made, the first reason that holds. Nothing has changed, but after
+/// `DiskFault` the manager is down. `index` counts ops from 0.
 #[derive(Clone, Copy, Debug, PartialEq, Eq, Error)]
 pub enum CommitFault {
     #[error("the manager is down")]
@@ -69,7 +72,8 @@ pub enum CommitFault {
     DiskFault,
 }
 
-/// Why no message was sent, the first reason that holds. Nothing has changed, but after `DiskFault` the manager is down.
+/// Why no message was sent, the first reason that holds. Nothing has changed, but after `DiskFault`
+/// the manager is down.
 #[derive(Clone, Copy, Debug, PartialEq, Eq, Error)]
 pub enum SendFault {
     #[error("the manager is down")]
@@ -92,7 +96,8 @@ pub enum SendFault {
     DiskFault,
 }
 
-/// Why no message was taken, the first reason that holds. Nothing has changed, but after `DiskFault` the manager is down.
+/// Why no message was taken, the first reason that holds. Nothing has changed, but after
+/// `DiskFault` the manager is down.
 #[derive(Clone, Copy, Debug, PartialEq, Eq, Error)]
 pub enum TakeFault {
     #[error("the manager is down")]
@@ -107,7 +112,8 @@ pub enum TakeFault {
     DiskFault,
 }
 
-/// Why a place was not purged, the first reason that holds. Nothing has changed, but after `DiskFault` the manager is down.
+/// Why a place was not purged, the first reason that holds. Nothing has changed, but after
+/// `DiskFault` the manager is down.
 #[derive(Clone, Copy, Debug, PartialEq, Eq, Error)]
 pub enum PurgeFault {
     #[error("the manager is down")]
@@ -120,7 +126,8 @@ pub enum PurgeFault {
     DiskFault,
 }
 
-/// Why a store was not changed, the first reason that holds. Nothing has changed, but after `DiskFault` the manager is down.
+/// Why a store was not changed, the first reason that holds. Nothing has changed, but after
+/// `DiskFault` the manager is down.
 #[derive(Clone, Copy, Debug, PartialEq, Eq, Error)]
 pub enum StoreFault {
     #[error("the manager is down")]
@@ -142,7 +149,8 @@ pub enum LinkFault {
     NoPeer,
 }
 
-/// Why a packet was not heard, the first reason that holds. Nothing has changed, but after `DiskFault` the manager is down.
+/// Why a packet was not heard, the first reason that holds. Nothing has changed, but after
+/// `DiskFault` the manager is down.
 #[derive(Clone, Copy, Debug, PartialEq, Eq, Error)]
 pub enum HearFault {
     #[error("the manager is down")]
@@ -155,7 +163,8 @@ pub enum HearFault {
     DiskFault,
 }
 
-/// Why nothing was sent, the first reason that holds. Nothing has changed, but after `DiskFault` the manager is down.
+/// Why nothing was sent, the first reason that holds. Nothing has changed, but after `DiskFault`
+/// the manager is down.
 #[derive(Clone, Copy, Debug, PartialEq, Eq, Error)]
 pub enum PumpFault {
     #[error("the manager is down")]

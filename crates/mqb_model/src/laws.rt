@@ -1,5 +1,7 @@
-ghost use Rattle.mqb_model.specs.laws.Durable.{CallsLeaveStore, DurableIsApplied, DurableIsFitted, LeavingIsDurable, MeetsDurably, StepsAreDurable};
-ghost use Rattle.mqb_model.specs.laws.Fitting.{PumpedIsReadable, RecordsAreRead, RecordsAreSpelled, RecordsFit};
+ghost use Rattle.mqb_model.specs.laws.Durable.{CallsLeaveStore, DurableIsApplied, DurableIsFitted};
+ghost use Rattle.mqb_model.specs.laws.Durable.{LeavingIsDurable, MeetsDurably, StepsAreDurable};
+ghost use Rattle.mqb_model.specs.laws.Fitting.{PumpedIsReadable, RecordsAreRead};
+ghost use Rattle.mqb_model.specs.laws.Fitting.{RecordsAreSpelled, RecordsFit};
 ghost use Rattle.mqb_model.specs.laws.Keeping.{
   AppliedIsValid,
   CallsKeepValid,
@@ -26,7 +28,8 @@ pub fn stepwise_is_effect()
     ensures { StepwiseIsEffect }
 {}
 
-/// A call that is refused changes nothing, and the disk is called exactly where a record is written.
+/// A call that is refused changes nothing, and the disk is called exactly where
+/// a record is written.
 pub fn refusals_change_nothing()
     ensures { RefusalsChangeNothing }
 {}
@@ -46,7 +49,8 @@ pub fn records_keep_identities()
     ensures { RecordsKeepIdentities }
 {}
 
-/// A valid manager that goes down under a record that may have been written, or under none, is valid.
+/// A valid manager that goes down under a record that may have been written, or
+/// under none, is valid.
 pub fn failed_is_valid()
     ensures { FailedIsValid }
 {}
@@ -61,7 +65,8 @@ pub fn lost_is_valid()
     ensures { LostIsValid }
 {}
 
-/// What follows when a durable message meets a class reads and changes nothing but what a store stands for.
+/// What follows when a durable message meets a class reads and changes nothing but
+/// what a store stands for.
 pub fn meets_durably()
     ensures { MeetsDurably }
 {}
@@ -71,7 +76,8 @@ pub fn steps_are_durable()
     ensures { StepsAreDurable }
 {}
 
-/// Durable messages are taken, purged and due without a look at anything but what a store stands for.
+/// Durable messages are taken, purged and due without a look at anything but
+/// what a store stands for.
 pub fn leaving_is_durable()
     ensures { LeavingIsDurable }
 {}
@@ -91,7 +97,8 @@ pub fn unread_is_valid()
     ensures { UnreadIsValid }
 {}
 
-/// A record that a call makes fits. Of `hear` and `pump` that is said of a valid manager, and of the others of any.
+/// A record that a call makes fits. Of `hear` and `pump` that is said of a valid manager, and
+/// of the others of any.
 pub fn records_fit()
     ensures { RecordsFit }
 {}

@@ -1,7 +1,9 @@
-//! What one manager keeps, what a record does to it, and what each call answers: definitions, the types of answers, and laws of them.
+//! What one manager keeps, what a record does to it, and what each call answers: definitions, the
+//! types of answers, and laws of them.
 //!
-//! Each function stands for a law: its contract is the law, and its body is empty. Laws of records say besides what an entry is read as: it tells of names
-//! that are names, and of messages that can be carried. So a state stays valid by it where it fits.
+//! Each function stands for a law: its contract is the law, and its body is empty. Laws of records
+//! say besides what an entry is read as: it tells of names that are names, and of messages that can
+//! be carried. So a state stays valid by it where it fits.
 #![tactic(auto)]
 
 mod answers;

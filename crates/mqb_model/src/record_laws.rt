@@ -9,7 +9,8 @@ use mqb_heads::message_fits;
 use mqb_names::{guid_fits, word_fits};
 use mqb_packet::{plain_is_read, read_is_written};
 
-/// The message of a user packet that bytes spell can be carried in a packet without further headers.
+/// The message of a user packet that bytes spell can be carried in a packet
+/// without further headers.
 pub fn packets_are_read()
     ensures { PacketsAreRead }
 {

@@ -1,4 +1,6 @@
-ghost use Rattle.mqb_model.specs.runs.Worked.{OneIsCommitted, OneIsPut, OneIsTaken, OneIsReleased, OneIsRefused, OneExpires, OneRolls, OneIsExpress, OneIsDropped, OneIsUnseen, OneIsInDoubt};
+ghost use Rattle.mqb_model.specs.runs.Worked.{OneIsCommitted, OneIsPut, OneIsTaken, OneIsReleased};
+ghost use Rattle.mqb_model.specs.runs.Worked.{OneIsRefused, OneExpires, OneRolls, OneIsExpress};
+ghost use Rattle.mqb_model.specs.runs.Worked.{OneIsDropped, OneIsUnseen, OneIsInDoubt};
 
 /// A message is committed as the first of its sequence.
 pub fn one_is_committed()
@@ -25,7 +27,8 @@ pub fn one_is_refused()
     ensures { OneIsRefused }
 {}
 
-/// A message that was not offered in time expires, an offered one does not, and the next one goes with the one before it.
+/// A message that was not offered in time expires, an offered one does not, and the next one goes
+/// with the one before it.
 pub fn one_expires()
     ensures { OneExpires }
 {}

@@ -14,7 +14,8 @@ seat_of m = record { manager = m; unread = false }
 -- Calls.
 
 -- what is known where a call went well
-pub record Went {V E : Type 0} (d e : View) (m n : ManagerState) (o : Outcome (Result V E)) (r : Result V E) : Type 0 where
+pub record Went {V E : Type 0} (d e : View) (m n : ManagerState) (o : Outcome (Result V E))
+    (r : Result V E) : Type 0 where
   pub answer : r ≡ o.answer
   pub left : Succeeds m n o
   pub move : IsMove d e (seat_of m) (seat_of n) o None

@@ -25,8 +25,10 @@ abbrev pub added_by : {A : Type 0} → Option Failure → Outcome A → ℕ
 added_by None o = option_map_or (λ _. 1) o.entry 0
 added_by (Some how) o = 0
 
--- A call of the manager that is held, whose disk failed in it or not. It fails only where this holds.
-pub record IsMoveWhere {A : Type 0} (Reason : Type 0) (d e : View) (s t : SeatState) (o : Outcome A) (failure : Option Failure) : Type 0 where
+-- A call of the manager that is held, whose disk failed in it or not. It fails
+-- only where this holds.
+pub record IsMoveWhere {A : Type 0} (Reason : Type 0) (d e : View) (s t : SeatState) (o : Outcome A)
+    (failure : Option Failure) : Type 0 where
   pub manager : seated t ≡ after_call failure (seated s) o
   pub counted : records_of t ≡ records_of s + added_by failure o
   pub fails_where : IsSome failure → Reason
@@ -35,7 +37,8 @@ pub record IsMoveWhere {A : Type 0} (Reason : Type 0) (d e : View) (s t : SeatSt
   pub switch : e.switch ≡ d.switch
 
 -- It fails only under a record, as each call but a checkpoint does.
-abbrev pub IsMove : {A : Type 0} → View → View → SeatState → SeatState → Outcome A → Option Failure → Type 0
+abbrev pub IsMove : {A : Type 0} → View → View → SeatState → SeatState → Outcome A → Option Failure
+    → Type 0
 IsMove d e s t o failure = IsMoveWhere (IsSome o.entry) d e s t o failure
 
 -- what a checkpoint of the manager that is held comes to
@@ -44,4 +47,5 @@ rewriting s = checkpoint (seated s) (is_far_on s)
 
 -- It writes no record, and fails only where it calls the disk.
 abbrev pub IsRewriting : View → View → SeatState → SeatState → Option Failure → Type 0
-IsRewriting d e s t failure = IsMoveWhere ((rewriting s).touches ≡ true) d e s t (rewriting s) failure
+IsRewriting d e s t failure =
+    IsMoveWhere ((rewriting s).touches ≡ true) d e s t (rewriting s) failure

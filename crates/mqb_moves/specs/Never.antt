@@ -1,4 +1,5 @@
--- No packet that is heard, and no pump, is said to meet a failing disk: that is for the code alone to answer. Of requests `mqb_replies` has this law.
+-- No packet that is heard, and no pump, is said to meet a failing disk: that is for the code alone
+-- to answer. Of requests `mqb_replies` has this law.
 use Rattle.std.specs.Prelude.{◌≡◌, Err, ℕ}
 use Rattle.mqb_model.specs.calls.hear.Hear.{hear}
 use Rattle.mqb_model.specs.calls.pump.Pump.{pump}

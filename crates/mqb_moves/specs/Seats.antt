@@ -25,10 +25,11 @@ is_far_on s = is_too_far s.manager.store.journal
 abbrev pub seated : SeatState → Manager
 seated s = if s.unread then unread (manager_of s.manager) else manager_of s.manager
 
--- The disk of a manager that is up stands for its records and is settled. An image of the disk of one that is down opens to the state that it had, or to
--- the one that the record in doubt leaves.
+-- The disk of a manager that is up stands for its records and is settled. An image of the disk of
+-- one that is down opens to the state that it had, or to the one that the record in doubt leaves.
 pub record IsHeldOn (d : View) (s : SeatState) : Type 0 where
   pub whole : length s.manager.store.journal.guid.0 ≡ 16
   pub on : is_down (seated s) ≡ false → IsOnDisk d s.manager
   pub settled : is_down (seated s) ≡ false → IsSettled d
-  pub opens : is_down (seated s) ≡ true → Each d.leaves (Opens s.manager.store.journal s.manager.store.state (doubt_of (seated s).condition))
+  pub opens : is_down (seated s) ≡ true → Each d.leaves
+      (Opens s.manager.store.journal s.manager.store.state (doubt_of (seated s).condition))

@@ -1,5 +1,5 @@
-//! Laws alone: the calls of a manager on a store, with its disk, are moves of the network that it is in; what they leave of the disk, and what a start of it
-//! comes to.
+//! Laws alone: the calls of a manager on a store, with its disk, are moves of the network that it
+//! is in; what they leave of the disk, and what a start of it comes to.
 #![tactic(auto)]
 
 mod laws;

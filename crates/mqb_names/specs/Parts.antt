@@ -1,5 +1,7 @@
 -- The parts of a name's text.
-use Rattle.std.specs.Prelude.{ℕ, ◌+◌, ◌*◌, ◌-◌, Bool, not, ◌==◌, ◌||◌, ◌&&◌, nat_le, nat_lt, is_none, List, [], ◌∷◌, length, take, drop, Option, Some, None, position, option_map, option_and_then, if◌then◌else◌}
+use Rattle.std.specs.Prelude.{ℕ, ◌+◌, ◌*◌, ◌-◌, Bool, not, ◌==◌, ◌||◌, ◌&&◌, nat_le, nat_lt}
+use Rattle.std.specs.Prelude.{is_none, List, [], ◌∷◌, length, take, drop, Option, Some, None}
+use Rattle.std.specs.Prelude.{position, option_map, option_and_then, if◌then◌else◌}
 use Rattle.std.specs.List.{fold, before_first}
 use Rattle.std.specs.Str.{str_eq_ignore_ascii_case}
 use Rattle.uuid.specs.Text.{is_hex_digit, parsed_hyphenated}
@@ -46,8 +48,10 @@ is_digit b = nat_le 48 b && nat_le b 57
 -- the number from 0 to 255 of decimal digits without leading zeros
 abbrev pub octet_of : List ℕ → Option ℕ
 octet_of (a ∷ []) = if is_digit a then Some (a - 48) else None
-octet_of (a ∷ b ∷ []) = if is_digit a && is_digit b && nat_lt 48 a then Some ((a - 48) * 10 + (b - 48)) else None
-octet_of (a ∷ b ∷ c ∷ []) = if is_digit a && is_digit b && is_digit c && nat_lt 48 a && nat_lt ((a - 48) * 100 + (b - 48) * 10 + (c - 48)) 256
+octet_of (a ∷ b ∷ []) =
+    if is_digit a && is_digit b && nat_lt 48 a then Some ((a - 48) * 10 + (b - 48)) else None
+octet_of (a ∷ b ∷ c ∷ []) = if is_digit a && is_digit b && is_digit c && nat_lt 48 a
+    && nat_lt ((a - 48) * 100 + (b - 48) * 10 + (c - 48)) 256
     then Some ((a - 48) * 100 + (b - 48) * 10 + (c - 48)) else None
 octet_of _ = None
 

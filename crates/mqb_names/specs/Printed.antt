@@ -1,12 +1,15 @@
-use Rattle.std.specs.Prelude.{ℕ, ◌+◌, ◌/◌, ◌%◌, ◌^◌, Bool, true, false, List, [], ◌∷◌, ◌++◌, map, slice_index, nat_lt, codes}
+use Rattle.std.specs.Prelude.{ℕ, ◌+◌, ◌/◌, ◌%◌, ◌^◌, Bool, true, false, List, [], ◌∷◌, ◌++◌, map}
+use Rattle.std.specs.Prelude.{slice_index, nat_lt, codes}
 use Rattle.uuid.specs.Text.{lower, hex_digit, hyphenated_text}
 use Rattle.mqb_base.specs.declared.ids.Guid.{Guid}
 use Rattle.mqb_base.specs.declared.queue_names.Host.{Host}
 use Rattle.mqb_base.specs.declared.queue_names.Host.TheVariants.{Os, Tcp}
 use Rattle.mqb_base.specs.declared.queue_names.MachineQueue.{MachineQueue}
-use Rattle.mqb_base.specs.declared.queue_names.MachineQueue.TheVariants.{DeadLetter, DeadXact, Journal}
+use Rattle.mqb_base.specs.declared.queue_names.MachineQueue.TheVariants.{DeadLetter, DeadXact}
+use Rattle.mqb_base.specs.declared.queue_names.MachineQueue.TheVariants.{Journal}
 use Rattle.mqb_base.specs.declared.queue_names.QueueName.{QueueName}
-use Rattle.mqb_base.specs.declared.queue_names.QueueName.TheVariants.{Public, Private, Direct, Machine}
+use Rattle.mqb_base.specs.declared.queue_names.QueueName.TheVariants.{Public, Private}
+use Rattle.mqb_base.specs.declared.queue_names.QueueName.TheVariants.{Direct, Machine}
 
 abbrev pub backslash : ℕ
 backslash = 0x5C
@@ -23,7 +26,8 @@ printed_guid guid = hyphenated_text lower guid.0
 
 -- eight hexadecimal digits
 abbrev pub printed_number : ℕ → List ℕ
-printed_number number = map (λ place. hex_digit lower (number / 16 ^ place % 16)) (7 ∷ 6 ∷ 5 ∷ 4 ∷ 3 ∷ 2 ∷ 1 ∷ 0 ∷ [])
+printed_number number =
+    map (λ place. hex_digit lower (number / 16 ^ place % 16)) (7 ∷ 6 ∷ 5 ∷ 4 ∷ 3 ∷ 2 ∷ 1 ∷ 0 ∷ [])
 
 -- a byte of one, two or three decimal digits
 abbrev pub decimal_octet : (one two : Bool) → ℕ → List ℕ
@@ -60,6 +64,8 @@ printed_kind Journal = codes ";JOURNAL"
 -- the one form in which a name is printed
 abbrev pub printed : QueueName → List ℕ
 printed (Public guid journal) = codes "PUBLIC=" ++ printed_guid guid ++ printed_journal journal
-printed (Private qm number journal) = codes "PRIVATE=" ++ printed_guid qm ++ backslash ∷ printed_number number ++ printed_journal journal
-printed (Direct host queue journal) = codes "DIRECT=" ++ printed_direct host queue ++ printed_journal journal
+printed (Private qm number journal) = codes "PRIVATE=" ++ printed_guid qm
+    ++ backslash ∷ printed_number number ++ printed_journal journal
+printed (Direct host queue journal) =
+    codes "DIRECT=" ++ printed_direct host queue ++ printed_journal journal
 printed (Machine qm kind) = codes "MACHINE=" ++ printed_guid qm ++ printed_kind kind

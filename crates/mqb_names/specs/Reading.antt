@@ -1,13 +1,17 @@
 -- What a text is read as, part by part from the left.
-use Rattle.std.specs.Prelude.{◌≡◌, ℕ, ◌+◌, Bool, true, false, ◌&&◌, ◌==◌, nat_le, nat_lt, List, [], ◌∷◌, length, drop, Option, Some, None, option_map, Result, Ok, Err, IsOk, codes, if◌then◌else◌}
+use Rattle.std.specs.Prelude.{◌≡◌, ℕ, ◌+◌, Bool, true, false, ◌&&◌, ◌==◌, nat_le, nat_lt, List, []}
+use Rattle.std.specs.Prelude.{◌∷◌, length, drop, Option, Some, None, option_map, Result, Ok, Err}
+use Rattle.std.specs.Prelude.{IsOk, codes, if◌then◌else◌}
 use Rattle.std.specs.List.{before_first}
 use Rattle.mqb_base.specs.declared.ids.Guid.{Guid}
 use Rattle.mqb_base.specs.declared.queue_names.Host.{Host}
 use Rattle.mqb_base.specs.declared.queue_names.Host.TheVariants.{Os, Tcp}
 use Rattle.mqb_base.specs.declared.queue_names.MachineQueue.{MachineQueue}
-use Rattle.mqb_base.specs.declared.queue_names.MachineQueue.TheVariants.{DeadLetter, DeadXact, Journal}
+use Rattle.mqb_base.specs.declared.queue_names.MachineQueue.TheVariants.{DeadLetter, DeadXact}
+use Rattle.mqb_base.specs.declared.queue_names.MachineQueue.TheVariants.{Journal}
 use Rattle.mqb_base.specs.declared.queue_names.QueueName.{QueueName}
-use Rattle.mqb_base.specs.declared.queue_names.QueueName.TheVariants.{Public, Private, Direct, Machine}
+use Rattle.mqb_base.specs.declared.queue_names.QueueName.TheVariants.{Public, Private}
+use Rattle.mqb_base.specs.declared.queue_names.QueueName.TheVariants.{Direct, Machine}
 use Rattle.mqb_fields.specs.Reading.{◌>>=◌, Reading, rest_of, moved}
 use Rattle.mqb_names.specs.declared.faults.NameKind.{NameKind}
 use Rattle.mqb_names.specs.declared.faults.NameKind.TheVariants as part
@@ -15,14 +19,16 @@ use Rattle.mqb_names.specs.declared.faults.NameFault.{NameFault}
 use Rattle.mqb_names.specs.declared.faults.PartFault.{PartFault}
 use Rattle.mqb_names.specs.declared.faults.NameFault.TheVariants as fault
 use Rattle.mqb_names.specs.Printed.{backslash, path}
-use Rattle.mqb_names.specs.Parts.{begins, same_word, guid_of, is_stop, is_name, hex_digits, hex_number, address_of}
+use Rattle.mqb_names.specs.Parts.{begins, same_word, guid_of, is_stop, is_name, hex_digits}
+use Rattle.mqb_names.specs.Parts.{hex_number, address_of}
 
 -- the part that begins here fails
 abbrev pub bad : {X : Type 0} → Reading → NameKind → Result X PartFault
 bad r kind = Err (record { at = r.at; kind = kind })
 
 -- the value of the next count bytes, where they have one
-abbrev pub or_bad : {X : Type 0} → Option X → ℕ → Reading → NameKind → Result (X × Reading) PartFault
+abbrev pub or_bad : {X : Type 0} → Option X → ℕ → Reading → NameKind
+    → Result (X × Reading) PartFault
 or_bad (Some x) count r kind = Ok (x, moved count r)
 or_bad None count r kind = bad r kind
 
@@ -41,7 +47,9 @@ number_at r = let digits = hex_digits (drop 1 (rest_of r)) in
 
 -- the bytes before the next backslash or semicolon
 abbrev pub name_at : NameKind → Reading → Result (List ℕ × Reading) PartFault
-name_at kind r = let name = before_first is_stop (rest_of r) in if is_name name then Ok (name, moved (length name) r) else bad r kind
+name_at kind r =
+    let name = before_first is_stop (rest_of r) in
+    if is_name name then Ok (name, moved (length name) r) else bad r kind
 
 abbrev pub os_at : Reading → Result (Host × Reading) PartFault
 os_at r = do
@@ -49,7 +57,9 @@ os_at r = do
   Ok (Os name.0, name.1)
 
 abbrev pub tcp_at : Reading → Result (Host × Reading) PartFault
-tcp_at r = let text = before_first is_stop (rest_of r) in or_bad (option_map (λ address. Tcp address) (address_of text)) (length text) r part.Host
+tcp_at r =
+    let text = before_first is_stop (rest_of r) in
+    or_bad (option_map (λ address. Tcp address) (address_of text)) (length text) r part.Host
 
 abbrev pub host_at : Reading → Result (Host × Reading) PartFault
 host_at r = if begins (rest_of r) (codes "OS:") then os_at (moved 3 r)

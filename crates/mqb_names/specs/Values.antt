@@ -3,7 +3,8 @@ use Rattle.std.specs.Prelude.{◌≡◌, ℕ, ◌<◌, ◌^◌, All, List, lengt
 use Rattle.mqb_base.specs.declared.queue_names.Host.{Host}
 use Rattle.mqb_base.specs.declared.queue_names.Host.TheVariants.{Os, Tcp}
 use Rattle.mqb_base.specs.declared.queue_names.QueueName.{QueueName}
-use Rattle.mqb_base.specs.declared.queue_names.QueueName.TheVariants.{Public, Private, Direct, Machine}
+use Rattle.mqb_base.specs.declared.queue_names.QueueName.TheVariants.{Public, Private}
+use Rattle.mqb_base.specs.declared.queue_names.QueueName.TheVariants.{Direct, Machine}
 use Rattle.mqb_base.specs.Names.{name_fault}
 
 -- so many bytes

@@ -1,10 +1,13 @@
 -- Names in packets and stores.
-use Rattle.std.specs.Prelude.{◌≡◌, ℕ, ◌+◌, ◌*◌, false, ◌==◌, ◌&&◌, nat_lt, is_some, IsSome, List, [], ◌∷◌, ◌++◌, length, take, drop, Option, Some, None, option_map, option_and_then, Result, Ok, Err, if◌then◌else◌}
+use Rattle.std.specs.Prelude.{◌≡◌, ℕ, ◌+◌, ◌*◌, false, ◌==◌, ◌&&◌, nat_lt, is_some, IsSome, List}
+use Rattle.std.specs.Prelude.{[], ◌∷◌, ◌++◌, length, take, drop, Option, Some, None, option_map}
+use Rattle.std.specs.Prelude.{option_and_then, Result, Ok, Err, if◌then◌else◌}
 use Rattle.std.specs.List.{flat_map}
 use Rattle.std.specs.Result.{result_ok}
 use Rattle.mqb_base.specs.declared.queue_names.Host.{Host}
 use Rattle.mqb_base.specs.declared.queue_names.QueueName.{QueueName}
-use Rattle.mqb_base.specs.declared.queue_names.QueueName.TheVariants.{Public, Private, Direct, Machine}
+use Rattle.mqb_base.specs.declared.queue_names.QueueName.TheVariants.{Public, Private}
+use Rattle.mqb_base.specs.declared.queue_names.QueueName.TheVariants.{Direct, Machine}
 use Rattle.mqb_fields.specs.declared.faults.Short as fields
 use Rattle.mqb_fields.specs.Guids.{swapped}
 use Rattle.mqb_fields.specs.Reading.{◌>>=◌, Reading, rest_of, number_at, guid_at}
@@ -25,7 +28,8 @@ units text = flat_map (λ b. b ∷ 0 ∷ []) text
 abbrev pub text_of : List ℕ → Option (List ℕ)
 text_of [] = Some []
 text_of (low ∷ []) = None
-text_of (low ∷ high ∷ rest) = if nat_lt low 0x80 && high == 0 then option_map (λ text. low ∷ text) (text_of rest) else None
+text_of (low ∷ high ∷ rest) =
+    if nat_lt low 0x80 && high == 0 then option_map (λ text. low ∷ text) (text_of rest) else None
 
 -- the count of a text's units, and the units
 abbrev pub direct_wire : List ℕ → List ℕ
@@ -82,7 +86,8 @@ private_from r = do
 
 abbrev pub direct_from : List ℕ → Option QueueName
 direct_from units = if nat_lt (2 * MAX_DIRECT_UNITS) (length units) then None
-    else option_map (λ direct. Direct direct.0 direct.1 false) (option_and_then direct_of (text_of units))
+    else option_map (λ direct. Direct direct.0 direct.1 false)
+    (option_and_then direct_of (text_of units))
 
 -- the name whose wire form these bytes are
 unfoldable pub spelled : ℕ → List ℕ → Option QueueName
@@ -99,7 +104,8 @@ IsWireForm kind bytes = (length_at kind bytes ≡ Ok (length bytes)) × IsSome (
 abbrev pub wire_at : ℕ → List ℕ → Result ℕ WireFault
 wire_at kind bytes = do
   len ← length_at kind bytes
-  if nat_lt (length bytes) len then Err Short else if is_some (spelled kind (take len bytes)) then Ok len else Err Bad
+  if nat_lt (length bytes) len then Err Short else if is_some (spelled kind (take len bytes))
+      then Ok len else Err Bad
 
 -- the count of bytes of what was found
 abbrev pub used : Result (NameView × ℕ) WireFault → Result ℕ WireFault

@@ -1,7 +1,8 @@
 //! The names of queues, as texts and in their wire form.
 //!
-//! `Printed` is the one form in which a name is printed, `Grammar` says which texts spell a name, and `Reading` says what a text is read as, part by
-//! part from the left: a fault is that of the first part that fails. `Wire` is the form in packets and stores.
+//! `Printed` is the one form in which a name is printed, `Grammar` says which texts spell a name,
+//! and `Reading` says what a text is read as, part by part from the left: a fault is that of the
+//! first part that fails. `Wire` is the form in packets and stores.
 #![tactic(auto)]
 
 mod direct;

@@ -1,9 +1,12 @@
-ghost use Rattle.std.specs.Prelude.{◌≡◌, ◌≤◌, ◌<◌, ◌==◌, not, position, true, IsSome, length, option_map, if◌then◌else◌};
+ghost use Rattle.std.specs.Prelude.{◌≡◌, ◌≤◌, ◌<◌, ◌==◌, not, position, true, IsSome, length};
+ghost use Rattle.std.specs.Prelude.{option_map, if◌then◌else◌};
 ghost use Rattle.std.specs.List.{before_first};
 ghost use Rattle.mqb_base.specs.Names.{is_name_byte};
 ghost use Rattle.uuid.specs.Text.{is_hex_digit};
 ghost use Rattle.mqb_fields.specs.Reading.{rest_of, moved};
-ghost use Rattle.mqb_names.specs.Parts.{begins, guid_of, same_word, is_stop, is_name, hex_digits, hex_value, hex_number, octet_of, octet_and_rest, address_of};
+ghost use Rattle.mqb_names.specs.Parts.{begins, guid_of, same_word, is_stop, is_name, hex_digits};
+ghost use Rattle.mqb_names.specs.Parts.{hex_value, hex_number, octet_of};
+ghost use Rattle.mqb_names.specs.Parts.{octet_and_rest, address_of};
 
 use mqb_base::{MAX_NAME, is_name_byte};
 use mqb_fields::Cursor;

@@ -1,7 +1,8 @@
 //! How long printed forms and their parts are.
 
 ghost use Rattle.std.specs.Prelude.{◌≡◌, ◌≤◌, length};
-ghost use Rattle.mqb_names.specs.Printed.{printed, printed_address, printed_direct, printed_host, printed_journal, printed_kind, printed_octet};
+ghost use Rattle.mqb_names.specs.Printed.{printed, printed_address, printed_direct, printed_host};
+ghost use Rattle.mqb_names.specs.Printed.{printed_journal, printed_kind, printed_octet};
 
 use crate::wire::MAX_DIRECT_UNITS;
 use mqb_base::{Host, MAX_NAME, MachineQueue, Name, QueueName};

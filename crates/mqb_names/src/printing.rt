@@ -33,7 +33,8 @@ fn fill_name(name: &QueueName, to: &mut [u8])
     put_name(to, 0, name);
 }
 
-/// Appends a GUID as it is printed: 36 characters, hyphenated, in lower case. After a refusal `out` is as before.
+/// Appends a GUID as it is printed: 36 characters, hyphenated, in lower case. After a
+/// refusal `out` is as before.
 pub fn write_guid(guid: &Guid, out: &mut Vec<u8>) -> Result<(), Memory>
     ensures ok { OnOk result (out.new.items ≡ out.old.items ++ printed_guid guid.now) }
     ensures err { OnErr result (out.new.items ≡ out.old.items) }

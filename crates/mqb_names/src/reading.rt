@@ -1,6 +1,7 @@
 ghost use Rattle.std.specs.Prelude.{◌≡◌};
 ghost use Rattle.mqb_fields.specs.Reading.{Reads};
-ghost use Rattle.mqb_names.specs.Reading.{Gives, direct_name_at, guid_at, journal_at, kind_at, machine_at, name_of, number_at, private_at, public_at};
+ghost use Rattle.mqb_names.specs.Reading.{Gives, direct_name_at, guid_at, journal_at, kind_at};
+ghost use Rattle.mqb_names.specs.Reading.{machine_at, name_of, number_at, private_at, public_at};
 
 use crate::direct::{direct_part, fault_at, owned};
 use crate::faults::{NameFault, NameKind, PartFault};

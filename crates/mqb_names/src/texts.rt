@@ -1,9 +1,12 @@
-//! The printed form of a name, part by part. Each call writes at a place of a buffer, and tells where it ends.
+//! The printed form of a name, part by part. Each call writes at a place of a buffer, and
+//! tells where it ends.
 
 ghost use Rattle.std.specs.Prelude.{◌≤◌, ◌<◌, ◌+◌, ◌≡◌, ◌∷◌, length};
 ghost use Rattle.uuid.specs.Text.{lower, hex_digit};
 ghost use Rattle.mqb_fields.specs.Writing.{Wrote};
-ghost use Rattle.mqb_names.specs.Printed.{dot, printed, printed_address, printed_direct, printed_guid, printed_host, printed_journal, printed_kind, printed_number, printed_octet};
+ghost use Rattle.mqb_names.specs.Printed.{dot, printed, printed_address, printed_direct};
+ghost use Rattle.mqb_names.specs.Printed.{printed_guid, printed_host, printed_journal};
+ghost use Rattle.mqb_names.specs.Printed.{printed_kind, printed_number, printed_octet};
 
 use mqb_base::{Guid, Host, MachineQueue, Name, QueueName};
 use mqb_fields::put_bytes;

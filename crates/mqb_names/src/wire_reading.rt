@@ -1,7 +1,9 @@
-ghost use Rattle.std.specs.Prelude.{◌≡◌, ◌≤◌, ◌*◌, length, is_some, IfOk, IfSome, IsSome, option_map, take};
+ghost use Rattle.std.specs.Prelude.{◌≡◌, ◌≤◌, ◌*◌, length, is_some, IfOk, IfSome, IsSome};
+ghost use Rattle.std.specs.Prelude.{option_map, take};
 ghost use Rattle.std.specs.Result.{result_ok};
 ghost use Rattle.mqb_names.specs.Directs.{names_of};
-ghost use Rattle.mqb_names.specs.Wire.{IsWireForm, direct_of, direct_from, length_at, private_from, public_from, spelled, start, text_of, used, wire_at};
+ghost use Rattle.mqb_names.specs.Wire.{IsWireForm, direct_of, direct_from, length_at, private_from};
+ghost use Rattle.mqb_names.specs.Wire.{public_from, spelled, start, text_of, used, wire_at};
 
 use crate::direct::{DirectPart, direct_part, owned};
 use crate::wire::{MAX_DIRECT_UNITS, NameView, WireFault};
@@ -9,7 +11,8 @@ use mqb_base::{Guid, Memory, QueueName};
 use mqb_fields::{Cursor, Short};
 use std::alloc::Global;
 
-/// Writes the text of units to the start of the room, and tells how long it is. A unit from 0x80 on makes no text.
+/// Writes the text of units to the start of the room, and tells how long it is. A unit from
+/// 0x80 on makes no text.
 fn copy_text(units: &[u8], room: &mut [u8]) -> Option<usize>
     requires { length units.now ≤ 2 * length room.old }
     ensures text { option_map (λ len. take len room.new) result ≡ text_of units.now }
@@ -123,7 +126,8 @@ fn is_spelled(kind: u8, part: &[u8]) -> bool
     }
 }
 
-/// Finds the wire form of a name of this type at the front of bytes, and tells how many bytes it has.
+/// Finds the wire form of a name of this type at the front of bytes, and tells
+/// how many bytes it has.
 pub fn read_wire_name(kind: u8, bytes: &[u8]) -> Result<(NameView<'_>, usize), WireFault>
     ensures used { used result ≡ wire_at kind bytes.now }
     ensures kind { IfOk result (λ found. found.0.kind ≡ kind) }

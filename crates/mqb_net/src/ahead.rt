@@ -1,5 +1,6 @@
 //! What came while a write waited, in order, until it is read.
-ghost use Rattle.std.specs.Prelude.{◌≡◌, ◌+◌, ◌-◌, ◌<◌, ◌≤◌, ◌↔◌, ℕ, List, [], ◌++◌, drop, length, min, take, vec_len, IsTrue};
+ghost use Rattle.std.specs.Prelude.{◌≡◌, ◌+◌, ◌-◌, ◌<◌, ◌≤◌, ◌↔◌, ℕ, List, [], ◌++◌, drop, length};
+ghost use Rattle.std.specs.Prelude.{min, take, vec_len, IsTrue};
 ghost use Rattle.mqb_outside.specs.Told.{Reads};
 ghost use Rattle.mqb_net.specs.declared.ahead.TheConstants.{MAX_AHEAD};
 ghost use Rattle.std.specs.Option.{option_map};
@@ -10,7 +11,8 @@ use std::alloc::Global;
 /// How many bytes are asked for at once.
 pub(crate) const CHUNK: usize = 65_536;
 
-/// The most bytes that may come while a write waits: 64 packets of the greatest size, and what is asked for at once.
+/// The most bytes that may come while a write waits: 64 packets of the greatest size, and what
+/// is asked for at once.
 pub const MAX_AHEAD: usize = 64 * 4_194_304 + CHUNK;
 
 /// Why nothing was taken in.
@@ -59,7 +61,8 @@ fn hear_behind<S: Socket>(bytes: &mut Vec<u8>, socket: &mut S) -> Result<usize, 
     ensures least { vec_len bytes.old ≤ vec_len bytes.new }
     ensures most { vec_len bytes.new ≤ vec_len bytes.old + CHUNK }
     ensures gave { S.held socket.old
-        ≡ option_map (λ rest. drop (vec_len bytes.old) bytes.new.items ++ rest) (S.held socket.new) }
+        ≡ option_map (λ rest. drop (vec_len bytes.old) bytes.new.items ++ rest)
+        (S.held socket.new) }
     ensures taken { S.taken socket.new ≡ S.taken socket.old }
 {
     let len = bytes.len();
@@ -113,7 +116,8 @@ impl Ahead {
         }
     }
 
-    /// Takes in a piece of what a socket has, and says how much. What is taken from the socket stands behind what was there.
+    /// Takes in a piece of what a socket has, and says how much. What is taken from the socket
+    /// stands behind what was there.
     pub(crate) fn take_in<S: Socket>(&mut self, socket: &mut S) -> Result<usize, Refused>
         ensures same { option_map (λ rest. left_in self.new ++ rest) (S.held socket.new)
             ≡ option_map (λ rest. left_in self.old ++ rest) (S.held socket.old) }

@@ -1,6 +1,7 @@
 //! What a program takes from the operating system for its connections: TCP, and a clock.
 //!
-//! Each meets its trait of `mqb_outside`, and tells nothing of what comes or is sent. Contracts speak of its counts of faults alone.
+//! Each meets its trait of `mqb_outside`, and tells nothing of what comes or is sent. Contracts
+//! speak of its counts of faults alone.
 #![tactic(auto)]
 
 mod ahead;

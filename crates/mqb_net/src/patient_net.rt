@@ -4,8 +4,8 @@ use mqb_outside::{MemoryNet, Net};
 
 /// A net that is told how long a silent peer is waited for.
 pub trait PatientNet: Net {
-    /// From now on a read of the connections to come finds the end of what comes where it has waited so many seconds without a byte; without seconds it fails
-    /// there, as before.
+    /// From now on a read of the connections to come finds the end of what comes where it has
+    /// waited so many seconds without a byte; without seconds it fails there, as before.
     fn end_by_silence(&mut self, seconds: Option<u32>)
         ensures faults { Self.faults self.new ≡ Self.faults self.old }
         ensures lost { Self.lost self.new ≡ Self.lost self.old }

@@ -12,7 +12,8 @@ pub(crate) struct Waits {
 /// The fewest bytes that come within the longest wait from a peer that is not silent.
 pub const MIN_BYTES: usize = 1024;
 
-/// How long was waited, in milliseconds, since a byte went or `MIN_BYTES` came, and how many came meanwhile.
+/// How long was waited, in milliseconds, since a byte went or `MIN_BYTES` came, and how
+/// many came meanwhile.
 #[derive(Clone, Copy, Debug)]
 pub(crate) struct Quiet {
     max: u64,

@@ -23,12 +23,14 @@ pub trait Socket {
     /// What it has taken, where it is told.
     ghost taken: { Self → Option (List ℕ) };
 
-    /// Fills the front of `buf`, and says how much of it. For a `buf` that is not empty, 0 is the end of what comes. It waits for so many milliseconds.
+    /// Fills the front of `buf`, and says how much of it. For a `buf` that is not empty, 0 is the
+    /// end of what comes. It waits for so many milliseconds.
     fn hear(&mut self, buf: &mut [u8], wait: u64) -> Result<usize, Stop>
         ensures reads { Reads (held self.old) (held self.new) buf.old buf.new result }
         ensures taken { taken self.new ≡ taken self.old };
 
-    /// Takes a front of `bytes`, and says how much of it: at least one byte, where there is one. It waits for `SHORT_WAIT`.
+    /// Takes a front of `bytes`, and says how much of it: at least one byte, where there is one. It
+    /// waits for `SHORT_WAIT`.
     fn tell(&mut self, bytes: &[u8]) -> Result<usize, Stop>
         ensures writes { Writes (taken self.old) (taken self.new) bytes.now result }
         ensures held { held self.new ≡ held self.old };
@@ -40,7 +42,8 @@ pub trait Socket {
 /// The wait of a write, and of a read in place of it, in milliseconds.
 pub const SHORT_WAIT: u64 = 10;
 
-/// How long a connection that has ended waits for its peer to end it too: for each byte, and in all, in milliseconds.
+/// How long a connection that has ended waits for its peer to end it too: for each byte, and in
+/// all, in milliseconds.
 const LAST_WAIT: u64 = 1000;
 
 const LAST_WAITS: u64 = 5000;
@@ -97,8 +100,9 @@ impl TcpSocket {
         Ok(())
     }
 
-    /// Nothing more goes, and what still comes is let go until the peer ends the connection, too, for some seconds. So the peer finds the end of what came: a
-    /// connection that is closed over bytes that were not read is reset.
+    /// Nothing more goes, and what still comes is let go until the peer ends the connection, too,
+    /// for some seconds. So the peer finds the end of what came: a connection that is closed over
+    /// bytes that were not read is reset.
     pub(crate) fn linger(&mut self) {
         let began = self.millis();
         if self.stream.shutdown(Shutdown::Write).is_err() || self.set_wait(LAST_WAIT).is_err() {

@@ -27,7 +27,8 @@ impl Clock for SystemClock {
 
     ghost asked = { λ clock. clock.asked };
 
-    /// It is 0 where the system tells no time or one before 1970, and the greatest moment for each later one.
+    /// It is 0 where the system tells no time or one before 1970, and the greatest
+    /// moment for each later one.
     fn now(&mut self) -> u32 {
         self.asked = self.asked.saturating_add(1);
         let seconds = seconds(&self.rt).unwrap_or(0);

@@ -9,8 +9,9 @@ use mqb_outside::{Conn, Sink, Source};
 use std::io;
 use std::net::TcpStream;
 
-/// A connection over TCP. It tells neither what comes on it nor what was sent. A write that would wait takes in what has come, which the next reads give
-/// first. Both fail where the peer is silent: where fewer than `MIN_BYTES` came within the longest wait, and none went.
+/// A connection over TCP. It tells neither what comes on it nor what was sent. A write that would
+/// wait takes in what has come, which the next reads give first. Both fail where the peer is
+/// silent: where fewer than `MIN_BYTES` came within the longest wait, and none went.
 #[derive(Drop)]
 pub struct TcpConn {
     ends: TwoWay<TcpSocket>,

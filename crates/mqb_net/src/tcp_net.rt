@@ -24,7 +24,8 @@ const MAX_TRIES: u32 = 100;
 /// The milliseconds between one such accept and the next.
 const PAUSE: u64 = 100;
 
-/// A net over TCP. From its first `accept`, `await_peer` or `listen` on it listens on all addresses of the machine. It tells nothing of its connections.
+/// A net over TCP. From its first `accept`, `await_peer` or `listen` on it listens on all addresses
+/// of the machine. It tells nothing of its connections.
 #[derive(Drop)]
 pub struct TcpNet {
     rt: HostRuntime,
@@ -47,7 +48,8 @@ impl TcpNet {
         TcpNet::with_port(rt, PORT)
     }
 
-    /// A net on another port, on which it listens and to which it connects. Where that is 0, the system chooses one once it listens.
+    /// A net on another port, on which it listens and to which it connects. Where that is 0, the
+    /// system chooses one once it listens.
     pub fn with_port(rt: &HostRuntime, port: u16) -> TcpNet
         ensures faults { faults_of result ≡ 0 }
         ensures lost { lost_by result ≡ 0 }
@@ -75,7 +77,8 @@ impl TcpNet {
         self.waits.longest = millis;
     }
 
-    /// Listens, unless it does already, so that connections that peers make wait for an `accept`. It answers the port.
+    /// Listens, unless it does already, so that connections that peers make wait for an `accept`.
+    /// It answers the port.
     pub fn listen(&mut self) -> Result<u16, Failed>
         ensures cause { HasCause (faults_of self.old) (faults_of self.new) result }
         ensures lost { lost_by self.new ≡ lost_by self.old }
@@ -158,7 +161,8 @@ fn accept_one(rt: &HostRuntime, listener: &TcpListener, waits: Waits) -> io::Res
     TcpConn::over(rt, listener.accept()?.0, waits)
 }
 
-// Waits for the next connection. One that was broken before it was accepted, or a lack of handles for a moment, does not end the wait.
+// Waits for the next connection. One that was broken before it was accepted, or a lack of handles
+// for a moment, does not end the wait.
 fn accept_from(rt: &HostRuntime, listener: &TcpListener, waits: Waits) -> io::Result<TcpConn>
     ensures { IfOk result (λ conn. IsFaultless conn) }
 {

@@ -15,8 +15,8 @@ use std::alloc::Global;
 /// How many pieces are taken in before a write is tried again.
 const MAX_PIECES: u32 = 16;
 
-/// A connection over a socket. A write that would wait takes in what has come, which the next reads give first. So two ends that both write do not block
-/// each other, and one such end is enough.
+/// A connection over a socket. A write that would wait takes in what has come, which the next reads
+/// give first. So two ends that both write do not block each other, and one such end is enough.
 #[derive(Drop)]
 pub struct TwoWay<S: Socket + Drop> {
     socket: S,

@@ -1,6 +1,7 @@
 -- How a network changes: each event is composed of these.
 use Rattle.std.specs.Option.{option_map_or}
-use Rattle.std.specs.Prelude.{[], ◌++◌, ◌+◌, ◌==◌, ◌∷◌, Bool, List, false, filter, if◌then◌else◌, not, replicate, true, ℕ}
+use Rattle.std.specs.Prelude.{[], ◌++◌, ◌+◌, ◌==◌, ◌∷◌, Bool, List, false, filter, if◌then◌else◌}
+use Rattle.std.specs.Prelude.{not, replicate, true, ℕ}
 use Rattle.mqb_base.specs.declared.ledger.Line.{Line}
 use Rattle.mqb_model.specs.Lists.{with_changed}
 use Rattle.mqb_model.specs.calls.Link.{unlink}
@@ -8,7 +9,8 @@ use Rattle.mqb_model.specs.managers.Manager.{Manager, is_down}
 use Rattle.mqb_model.specs.managers.Outcomes.{Outcome, failed, lines_after, succeeded}
 use Rattle.mqb_model.specs.managers.Restarts.{lines_in_doubt, restarted, unread}
 use Rattle.mqb_queue.specs.Places.{with_numbered}
-use Rattle.mqb_network.specs.Network.{Connection, Network, Note, connection_of, manager_at, other_end, with_manager}
+use Rattle.mqb_network.specs.Network.{Connection, Network, Note, connection_of, manager_at}
+use Rattle.mqb_network.specs.Network.{other_end, with_manager}
 
 -- lines join the ledger
 abbrev pub with_lines : List Line → Network → Network
@@ -22,7 +24,10 @@ connection_to n a b = record { number = n.connected + 1; first = a; second = b }
 
 -- a connection begins between two managers that are linked
 abbrev pub begun : ℕ → ℕ → Network → Network
-begun a b n = record n { connections = n.connections ++ connection_to n a b ∷ []; connected = n.connected + 1 }
+begun a b n = record n {
+  connections = n.connections ++ connection_to n a b ∷ [];
+  connected = n.connected + 1;
+}
 
 -- a manager that is up forgets whatever belonged to its connection
 abbrev pub parted : Manager → Manager
@@ -66,11 +71,18 @@ unread_at i n = with_manager n i (unread (manager_at n i))
 
 -- a packet of a manager in its connection, at a moment
 abbrev pub note_by : ℕ → ℕ → Connection → Note
-note_by i now c = record { sender = i; receiver = other_end i c; connection = c.number; moment = now; dropped = false }
+note_by i now c = record {
+  sender = i;
+  receiver = other_end i c;
+  connection = c.number;
+  moment = now;
+  dropped = false;
+}
 
 -- so many packets of a manager are sent
 abbrev pub noted : ℕ → ℕ → ℕ → Network → Network
-noted i now count n = option_map_or (λ c. record n { notes = n.notes ++ replicate count (note_by i now c) })
+noted i now count n =
+    option_map_or (λ c. record n { notes = n.notes ++ replicate count (note_by i now c) })
     (connection_of n i) n
 
 -- a packet goes nowhere any more

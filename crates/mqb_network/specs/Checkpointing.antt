@@ -1,5 +1,6 @@
 -- The event checkpoint: the state of a manager is written anew, in place of its records.
-use Rattle.std.specs.Prelude.{◌&&◌, ◌*◌, ◌+◌, ◌==◌, Bool, List, false, filter, length, nat_lt, not, true, ℕ}
+use Rattle.std.specs.Prelude.{◌&&◌, ◌*◌, ◌+◌, ◌==◌, Bool, List, false, filter, length, nat_lt, not}
+use Rattle.std.specs.Prelude.{true, ℕ}
 use Rattle.mqb_layout.specs.Layouts.{head_behind}
 use Rattle.mqb_layout.specs.declared.limits.TheConstants.{HEADER, MOST_HEAD}
 use Rattle.mqb_model.specs.declared.limits.TheConstants.{MAX_RECORD}
@@ -22,7 +23,8 @@ checkpoint_by i choice c = call i (checkpoint (manager_at c.network i) (is_far c
 abbrev pub written_count : ℕ → List Written → ℕ
 written_count i written = length (filter (λ w. w.by == i) written)
 
--- how many records a manager has had since its store was formatted: its identity, its peers, and those that were written
+-- how many records a manager has had since its store was formatted: its identity, its peers, and
+-- those that were written
 abbrev pub record_count : Course → ℕ → ℕ
 record_count c i = 1 + length (manager_at c.network i).state.peers + written_count i c.written
 
@@ -34,7 +36,8 @@ may_be_far count = nat_lt MOST_HEAD (head_behind (HEADER + count * (5 + MAX_RECO
 abbrev pub may_rewrite : Network → ℕ → (count : ℕ) → Choice → Bool
 may_rewrite n i count Well = true
 may_rewrite n i count TooFar = not (is_down (manager_at n i)) && may_be_far count
-may_rewrite n i count (Fails before how) = before == 0 && (checkpoint (manager_at n i) false).touches
+may_rewrite n i count (Fails before how) =
+    before == 0 && (checkpoint (manager_at n i) false).touches
 may_rewrite n i count _ = false
 
 -- what may be chosen in the event

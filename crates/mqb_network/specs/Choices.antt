@@ -1,5 +1,7 @@
--- What is free in an event: how the disks behave, and which stores are too far on. All else follows from the network and the event.
-use Rattle.std.specs.Prelude.{◌&&◌, ◌-◌, ◌==◌, Bool, None, Option, Some, false, if◌then◌else◌, true, ℕ}
+-- What is free in an event: how the disks behave, and which stores are too far on. All else follows
+-- from the network and the event.
+use Rattle.std.specs.Prelude.{◌&&◌, ◌-◌, ◌==◌, Bool, None, Option, Some, false, if◌then◌else◌}
+use Rattle.std.specs.Prelude.{true, ℕ}
 use Rattle.mqb_model.specs.managers.Outcomes.{Outcome}
 
 -- how a disk fails: it stops for good, or in one call
@@ -13,7 +15,8 @@ pub data Choice : Type 0 where
   Well : Choice
   -- so many calls of this event that touch a disk go well, and it fails in the next one
   Fails : (before : ℕ) → Failure → Choice
-  -- a manager that was down is started over a store that has the record in doubt, or that has it not
+  -- a manager that was down is started over a store that has the record in
+  -- doubt, or that has it not
   Kept : Choice
   Lost : Choice
   -- a manager is not started, since its disk fails
@@ -33,5 +36,6 @@ failure_in _ outcome = None
 
 -- what is left to choose behind a call that went well
 abbrev pub choice_behind : {A : Type 0} → Choice → Outcome A → Choice
-choice_behind (Fails before how) outcome = if outcome.touches then Fails (before - 1) how else Fails before how
+choice_behind (Fails before how) outcome =
+    if outcome.touches then Fails (before - 1) how else Fails before how
 choice_behind choice outcome = choice

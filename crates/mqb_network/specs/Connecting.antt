@@ -25,11 +25,13 @@ linked_as i end window n = succeeded_at i (link (manager_at n i) end window) n
 
 -- the one that connects asks the other
 abbrev pub linked_to : ℕ → ℕ → ℕ → Network → Network
-linked_to a b window n = linked_as a (asking (manager_at n a).state (manager_at n b).state.identity.guid) window n
+linked_to a b window n =
+    linked_as a (asking (manager_at n a).state (manager_at n b).state.identity.guid) window n
 
 -- both are linked, and a connection begins
 abbrev pub both_linked : ℕ → ℕ → ℕ → ℕ → Network → Network
-both_linked a b window_a window_b n = begun a b (linked_as b role.Acceptor window_b (linked_to a b window_a n))
+both_linked a b window_a window_b n =
+    begun a b (linked_as b role.Acceptor window_b (linked_to a b window_a n))
 
 -- each in turn sends what it owes, and is heard
 abbrev pub exchanged : ℕ → ℕ → ℕ → Course → Course
@@ -74,5 +76,8 @@ disconnect i c = if is_connected c.network i
 -- its rows begin anew
 abbrev pub resend_by : ℕ → Course → Answer
 resend_by i c = if is_connected c.network i
-    then record { reply = reply.Resent; after = moved (succeeded_at i (resend (manager_at c.network i))) c }
+    then record {
+      reply = reply.Resent;
+      after = moved (succeeded_at i (resend (manager_at c.network i))) c;
+    }
     else only c reply.Unlinked

@@ -1,4 +1,5 @@
--- A network in its course: what it is now, and what the packets said and which records were written since the course began.
+-- A network in its course: what it is now, and what the packets said and which records were written
+-- since the course began.
 use Rattle.std.specs.Prelude.{[], ◌++◌, ◌∷◌, List, None, Option, Some, length, ℕ}
 use Rattle.mqb_model.specs.managers.Manager.{Manager, doubt_of}
 use Rattle.mqb_model.specs.managers.Outcomes.{Outcome}
@@ -52,7 +53,8 @@ called i outcome choice c = called_unless i outcome (failure_in choice outcome) 
 
 -- packets of a manager are sent
 abbrev pub posted : ℕ → ℕ → List Packet → Course → Course
-posted i now packets c = record c { network = noted i now (length packets) c.network; sent = c.sent ++ packets }
+posted i now packets c =
+    record c { network = noted i now (length packets) c.network; sent = c.sent ++ packets }
 
 -- a manager that was down is started over a store that has the record in doubt
 abbrev pub found_kept : ℕ → Course → Course

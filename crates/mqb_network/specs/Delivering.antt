@@ -1,6 +1,7 @@
 -- The events deliver and drop.
 use Rattle.std.specs.Option.{option_map_or}
-use Rattle.std.specs.Prelude.{Bool, Err, List, Ok, Option, Result, Some, false, if◌then◌else◌, is_some, true, ℕ}
+use Rattle.std.specs.Prelude.{Bool, Err, List, Ok, Option, Result, Some, false, if◌then◌else◌}
+use Rattle.std.specs.Prelude.{is_some, true, ℕ}
 use Rattle.mqb_base.specs.declared.heard.Heard.{Heard}
 use Rattle.mqb_base.specs.declared.heard.Heard.TheVariants as heard
 use Rattle.mqb_base.specs.declared.ledger.Line.{Line}
@@ -42,7 +43,8 @@ after_hearing i outcome choice c = if closes outcome.answer
 -- a manager hears a packet
 abbrev pub heard_by : ℕ → HeardOutcome → Choice → Course → Delivered
 heard_by i outcome choice c = record {
-  delivery = option_map_or reply.Unheard (failure_in choice outcome) (heard_with outcome.answer (lines_at i outcome c));
+  delivery = option_map_or reply.Unheard (failure_in choice outcome)
+      (heard_with outcome.answer (lines_at i outcome c));
   after = after_hearing i outcome choice c;
   left = choice_behind choice outcome;
 }

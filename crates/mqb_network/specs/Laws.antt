@@ -17,7 +17,8 @@ AreApart known = AllPairs (λ a b. is_met a b ≡ false) known
 
 -- P holds at each point of each run, whatever became of the records in doubt.
 abbrev pub Always : (Course → Type 0) → Type 0
-Always P = (known : List Identity) (ms : List Move) → AreApart known → IsRun known ms → (kept : ℕ → Bool)
+Always P =
+    (known : List Identity) (ms : List Move) → AreApart known → IsRun known ms → (kept : ℕ → Bool)
     → P (settled kept (after_run known ms))
 
 -- the lines of records
@@ -28,14 +29,16 @@ lines_written written = flat_map (λ w. lines_of w.before w.entry) written
 abbrev pub LedgerIsWritten : Type 0
 LedgerIsWritten = Always (λ c. c.network.ledger ≡ lines_written c.written)
 
--- A checkpoint writes no record, adds no line to the ledger and sends no packet, whether it goes well, is refused or its disk fails.
+-- A checkpoint writes no record, adds no line to the ledger and sends no packet, whether it goes
+-- well, is refused or its disk fails.
 pub record WritesNothing (c d : Course) : Type 0 where
   pub written : d.written ≡ c.written
   pub ledger : d.network.ledger ≡ c.network.ledger
   pub sent : d.sent ≡ c.sent
 
 abbrev pub CheckpointsWriteNothing : Type 0
-CheckpointsWriteNothing = (c : Course) (i : ℕ) (choice : Choice) → WritesNothing c (checkpoint_by i choice c).after
+CheckpointsWriteNothing =
+    (c : Course) (i : ℕ) (choice : Choice) → WritesNothing c (checkpoint_by i choice c).after
 
 -- A move of a run is its event in the course of the run.
 abbrev pub MovesAreEvents : Type 0

@@ -1,6 +1,8 @@
--- Managers, the connections between them, what is noted of the packets that were ever sent, and the ledger.
+-- Managers, the connections between them, what is noted of the packets that were ever
+-- sent, and the ledger.
 use Rattle.std.specs.List.{list_any}
-use Rattle.std.specs.Prelude.{[], ◌&&◌, ◌==◌, ◌||◌, Bool, List, None, Option, filter, find, fold, if◌then◌else◌, map, not, slice_get, slice_set, unwrap_or, ℕ}
+use Rattle.std.specs.Prelude.{[], ◌&&◌, ◌==◌, ◌||◌, Bool, List, None, Option, filter, find, fold}
+use Rattle.std.specs.Prelude.{if◌then◌else◌, map, not, slice_get, slice_set, unwrap_or, ℕ}
 use Rattle.mqb_base.specs.Same.{same_guid}
 use Rattle.mqb_base.specs.declared.ids.Identity.{Identity}
 use Rattle.mqb_base.specs.declared.ledger.Line.{Line}
@@ -16,7 +18,8 @@ pub record Connection : Type 0 where
   pub first : ℕ
   pub second : ℕ
 
--- what is noted of a packet that was sent: by whom and to whom, in which connection, at which moment, and whether it was dropped
+-- what is noted of a packet that was sent: by whom and to whom, in which connection, at which
+-- moment, and whether it was dropped
 pub record Note : Type 0 where
   pub sender : ℕ
   pub receiver : ℕ
@@ -24,7 +27,8 @@ pub record Note : Type 0 where
   pub moment : ℕ
   pub dropped : Bool
 
--- A network. Managers are told by their indexes, packets by their numbers, which are the places of their notes, from 1.
+-- A network. Managers are told by their indexes, packets by their numbers, which are the places of
+-- their notes, from 1.
 pub record Network : Type 0 where
   pub managers : List Manager
   pub connections : List Connection
@@ -37,7 +41,8 @@ pub record Network : Type 0 where
 
 -- where there is no manager, it is as if one were down
 abbrev pub nobody : Manager
-nobody = record (new_manager (record { host = []; guid = no_guid; address = [] })) { condition = Down None }
+nobody = record (new_manager
+    (record { host = []; guid = no_guid; address = [] })) { condition = Down None }
 
 -- the manager at an index
 abbrev pub manager_at : Network → ℕ → Manager

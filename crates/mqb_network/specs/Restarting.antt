@@ -16,7 +16,10 @@ opened n i = if is_down (manager_at n i) then reply.OpenedLost else reply.Opened
 -- its connection has ended
 abbrev pub reopen : ℕ → Choice → Course → Answer
 reopen i Unread c = record { reply = reply.DiskFailed Failed; after = moved (unread_at i) c }
-reopen i Kept c = record { reply = reply.OpenedKept (lines_in_doubt (manager_at c.network i)); after = found_kept i c }
+reopen i Kept c = record {
+  reply = reply.OpenedKept (lines_in_doubt (manager_at c.network i));
+  after = found_kept i c;
+}
 reopen i _ c = record { reply = opened c.network i; after = moved (restarted_at i false) c }
 
 -- the event

@@ -1,5 +1,6 @@
 -- Runs: events, each with what was chosen in it.
-use Rattle.std.specs.Prelude.{[], ◌++◌, ◌∷◌, Bool, IsTrue, List, None, Option, false, fold, is_some, length, nat_lt, not, true, ℕ}
+use Rattle.std.specs.Prelude.{[], ◌++◌, ◌∷◌, Bool, IsTrue, List, None, Option, false, fold, is_some}
+use Rattle.std.specs.Prelude.{length, nat_lt, not, true, ℕ}
 use Rattle.mqb_base.specs.declared.ids.Identity.{Identity}
 use Rattle.mqb_model.specs.managers.Manager.{doubt_of, is_down}
 use Rattle.mqb_packet.specs.declared.packet.Packet.{Packet}
@@ -39,8 +40,8 @@ joined before c = record {
 abbrev pub moved_on : Course → Move → Course
 moved_on c m = joined c (answer c m).after
 
--- What may be chosen: a disk fails only where a call touches it, a record is kept only where one is in doubt, and a store is too far on only
--- behind many records.
+-- What may be chosen: a disk fails only where a call touches it, a record is kept only where one is
+-- in doubt, and a store is too far on only behind many records.
 
 -- what may be chosen when a manager is started again
 abbrev pub may_restart : Network → ℕ → Choice → Bool

@@ -47,9 +47,11 @@ one_message = opening (one_order
     ∷ well (event.Pump 1 1002)
     ∷ well (event.Deliver 6 1002) ∷ [])
 
--- The receiver's disk fails under the second of three packets of a flow; then it cannot be read, has the record, and cannot be read again.
+-- The receiver's disk fails under the second of three packets of a flow; then it cannot be read,
+-- has the record, and cannot be read again.
 abbrev pub one_unheard : List Move
-one_unheard = opening (well (event.Asks 0 (Commit 1000 (a_send (codes "one") ∷ a_send (codes "two") ∷ a_send (codes "three") ∷ [])))
+one_unheard = opening (well (event.Asks 0
+    (Commit 1000 (a_send (codes "one") ∷ a_send (codes "two") ∷ a_send (codes "three") ∷ [])))
     ∷ given (event.Flow 0 1001) (Fails 2 Failed)
     ∷ well (event.Asks 1 (Tick 1002))
     ∷ given (event.Restart 1) Unread

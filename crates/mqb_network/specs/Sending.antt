@@ -1,7 +1,8 @@
 -- The events pump and flow.
 use Rattle.std.specs.List.{enumerate_from, range_with_len}
 use Rattle.std.specs.Option.{option_map_or}
-use Rattle.std.specs.Prelude.{[], ◌++◌, ◌+◌, ◌∷◌, Err, List, None, Ok, Option, Result, Some, fold, if◌then◌else◌, is_some, length, ℕ}
+use Rattle.std.specs.Prelude.{[], ◌++◌, ◌+◌, ◌∷◌, Err, List, None, Ok, Option, Result, Some, fold}
+use Rattle.std.specs.Prelude.{if◌then◌else◌, is_some, length, ℕ}
 use Rattle.mqb_base.specs.declared.ledger.Line.{Line}
 use Rattle.mqb_model.specs.calls.pump.Pump.{PumpOutcome, pump}
 use Rattle.mqb_model.specs.declared.faults.PumpFault.{PumpFault}
@@ -63,11 +64,13 @@ with_arrival k arrivals d = record {
 -- one packet more is delivered
 abbrev pub passed_on : ℕ → Passing → ℕ × Packet → Passing
 passed_on now t given = with_arrival given.0 t.arrivals
-    (option_map_or (λ note. passed note given.1 now t.left t.after) (numbered t.after.network.notes given.0) (unheard t.left t.after))
+    (option_map_or (λ note. passed note given.1 now t.left t.after)
+    (numbered t.after.network.notes given.0) (unheard t.left t.after))
 
 -- packets with their numbers are delivered in turn
 abbrev pub all_passed : ℕ → Choice → Course → List (ℕ × Packet) → Passing
-all_passed now choice c given = fold (passed_on now) (record { arrivals = []; after = c; left = choice }) given
+all_passed now choice c given =
+    fold (passed_on now) (record { arrivals = []; after = c; left = choice }) given
 
 -- the answer
 abbrev pub flowed : Passing → Answer
@@ -75,7 +78,8 @@ flowed t = record { reply = reply.Flowed t.arrivals; after = t.after }
 
 -- what was pumped is delivered
 abbrev pub pumped_flows : ℕ → ℕ → PumpOutcome → Choice → Course → Answer
-pumped_flows i now outcome choice c = flowed (all_passed now (choice_behind choice outcome) (pump_by i now outcome choice c).after
+pumped_flows i now outcome choice c =
+    flowed (all_passed now (choice_behind choice outcome) (pump_by i now outcome choice c).after
     (enumerate_from (length c.network.notes + 1) outcome.packets))
 
 -- a pump that was refused, or failed, is the answer

@@ -27,6 +27,7 @@ answer_to (event.Checkpoint i) p choice c = checkpoint_by i choice c
 answer_to (event.Arm i) p choice c = only c reply.Armed
 answer_to (event.Restart i) p choice c = restart i choice c
 
--- The reply to an event, the network after it, and the packets that were sent and the records that were written in it.
+-- The reply to an event, the network after it, and the packets that were sent and the records
+-- that were written in it.
 abbrev pub step : Network → Option Packet → event.Event → Choice → Answer
 step n p e choice = answer_to e p choice (course_from n)

@@ -14,7 +14,8 @@ use Rattle.mqb_network.specs.Choices.{Failed, Stopped}
 use Rattle.mqb_network.specs.Network.{Network, manager_at}
 use Rattle.mqb_network.specs.Replies as reply
 use Rattle.mqb_network.specs.Runs.{IsRun, Move, after_run, beginning, replies_from}
-use Rattle.mqb_network.specs.Scripts.{one_closed, one_kept, one_lost, one_message, one_unheard, pair}
+use Rattle.mqb_network.specs.Scripts.{one_closed, one_kept, one_lost, one_message}
+use Rattle.mqb_network.specs.Scripts.{one_unheard, pair}
 
 -- the replies of a run
 abbrev pub replies_of : List Move → List reply.Reply
@@ -28,7 +29,8 @@ network_of ms = (after_run pair ms).network
 abbrev pub first : SequenceId
 first = (to_orders 1).sequence
 
--- the marks of each outgoing row: how many were committed, and the numbers that were offered and acknowledged
+-- the marks of each outgoing row: how many were committed, and the numbers that were
+-- offered and acknowledged
 abbrev pub marks_of : Network → ℕ → List (List ℕ)
 marks_of n i = map (λ row. row.committed ∷ row.offered ∷ row.acked ∷ []) (manager_at n i).state.outs
 
@@ -42,7 +44,8 @@ at_delivery k what = record { packet = k; delivery = what }
 
 -- a commit of one message that is the next of its sequence
 abbrev pub one_committed : reply.Reply
-one_committed = reply.Called (answer.Committed (Ok (done.Sent (of_alpha 1) first 1 ∷ []))) (line.Committed (to_orders 1) 1 (of_alpha 1) ∷ [])
+one_committed = reply.Called (answer.Committed (Ok (done.Sent (of_alpha 1) first 1 ∷ [])))
+    (line.Committed (to_orders 1) 1 (of_alpha 1) ∷ [])
 
 -- The message is committed, sent, put and acknowledged, and the ledger has two lines.
 pub record OneArrives : Type 0 where
@@ -52,7 +55,8 @@ pub record OneArrives : Type 0 where
       ∷ reply.Connected (1 ∷ 2 ∷ 3 ∷ 4 ∷ [])
       ∷ one_committed
       ∷ reply.Pumped (5 ∷ [])
-      ∷ reply.Delivered (reply.Heard (heard.Put first 1) (line.Put (to_orders 1) 1 (of_alpha 1) ∷ []))
+      ∷ reply.Delivered
+      (reply.Heard (heard.Put first 1) (line.Put (to_orders 1) 1 (of_alpha 1) ∷ []))
       ∷ reply.Pumped (6 ∷ [])
       ∷ reply.Delivered (reply.Heard (heard.OrderAcked 1 1) [])
       ∷ []
@@ -60,7 +64,8 @@ pub record OneArrives : Type 0 where
       ≡ line.Committed (to_orders 1) 1 (of_alpha 1) ∷ line.Put (to_orders 1) 1 (of_alpha 1) ∷ []
   pub marks : marks_of (network_of one_message) 0 ≡ (1 ∷ 1 ∷ 1 ∷ []) ∷ []
   pub queue : queues_of (network_of one_message) 1 ≡ (of_alpha 1 ∷ []) ∷ []
-  pub moments : map (λ note. note.moment) (network_of one_message).notes ≡ 1000 ∷ 1000 ∷ 1000 ∷ 1000 ∷ 1001 ∷ 1002 ∷ []
+  pub moments : map (λ note. note.moment) (network_of one_message).notes
+      ≡ 1000 ∷ 1000 ∷ 1000 ∷ 1000 ∷ 1001 ∷ 1002 ∷ []
 
 -- The second of three is in doubt until its record is found, and the third is not heard.
 pub record OneIsUnheard : Type 0 where
@@ -94,7 +99,8 @@ pub record OneIsLost : Type 0 where
       ∷ reply.Pumped (9 ∷ [])
       ∷ []
 
--- The arrival that is kept is as if the call had gone well: the message that comes again is a duplicate.
+-- The arrival that is kept is as if the call had gone well: the message that comes
+-- again is a duplicate.
 pub record OneIsKept : Type 0 where
   pub run : IsRun pair one_kept
   pub replies : replies_of one_kept

@@ -1,4 +1,5 @@
-//! Managers, the connections between them, the packets that were ever sent, and the ledger: definitions, and laws of their runs.
+//! Managers, the connections between them, the packets that were ever sent, and the ledger:
+//! definitions, and laws of their runs.
 //!
 //! Each function stands for a law: its contract is the law, and its body is empty.
 #![tactic(auto)]

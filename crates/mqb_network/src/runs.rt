@@ -1,4 +1,5 @@
-ghost use Rattle.mqb_network.specs.Worked.{OneArrives, OneIsUnheard, OneIsLost, OneIsKept, OneCloses};
+ghost use Rattle.mqb_network.specs.Worked.{OneArrives, OneIsUnheard, OneIsLost};
+ghost use Rattle.mqb_network.specs.Worked.{OneIsKept, OneCloses};
 
 /// A message is committed, sent, put and acknowledged.
 pub fn one_arrives()

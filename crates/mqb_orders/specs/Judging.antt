@@ -17,9 +17,11 @@ decided (Some row) sequence = decided_of row sequence
 
 -- what a packet is, once d was decided of its sequence
 abbrev pub verdict_after : ℕ → TxHead → Verdict
-verdict_after d tx = if nat_le tx.number d then Duplicate else if nat_lt d tx.previous then Gap else Next
+verdict_after d tx =
+    if nat_le tx.number d then Duplicate else if nat_lt d tx.previous then Gap else Next
 
 -- what a packet is to its row, or to the want of one
 abbrev pub verdict_of : Option InRow → TxHead → Verdict
 verdict_of None tx = verdict_after 0 tx
-verdict_of (Some row) tx = if earlier tx.sequence row.sequence then Stale else verdict_after (decided_of row tx.sequence) tx
+verdict_of (Some row) tx = if earlier tx.sequence row.sequence then Stale
+    else verdict_after (decided_of row tx.sequence) tx

@@ -9,6 +9,7 @@ numbers kept = map (λ k. k.number) kept
 abbrev pub Rises : List Kept → Type 0
 Rises kept = AllPairs (λ j k. j.number < k.number) kept
 
--- what is kept where everything up to a number was acknowledged: beyond what is above it, what has the dead-letter bit
+-- what is kept where everything up to a number was acknowledged: beyond what is above it, what
+-- has the dead-letter bit
 abbrev pub released : ℕ → List Kept → List Kept
 released number kept = filter (λ k. nat_lt number k.number || keeps_dead k.message) kept

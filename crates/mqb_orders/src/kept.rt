@@ -1,4 +1,6 @@
-ghost use Rattle.std.specs.Prelude.{◌≡◌, ◌+◌, ◌-◌, ◌<◌, ◌≤◌, ◌==◌, [], ◌∷◌, ◌++◌, length, insert, remove, drop, take, slice_get, max, All, Some, IsOk, IsErr, OnOk, OnErr, IfErr, nat_lt, nat_le};
+ghost use Rattle.std.specs.Prelude.{◌≡◌, ◌+◌, ◌-◌, ◌<◌, ◌≤◌, ◌==◌, [], ◌∷◌, ◌++◌, length, insert};
+ghost use Rattle.std.specs.Prelude.{remove, drop, take, slice_get, max, All, Some, IsOk, IsErr};
+ghost use Rattle.std.specs.Prelude.{OnOk, OnErr, IfErr, nat_lt, nat_le};
 ghost use Rattle.std.specs.List.{list_any};
 ghost use Rattle.std.specs.VecDeque.{deque_len, deque_capacity};
 ghost use Rattle.mqb_base.specs.Bits.{keeps_dead};
@@ -17,8 +19,8 @@ pub struct Kept {
     pub message: Message,
 }
 
-/// The kept messages of one stream, in rising order of number. Contracts see the list and its room: how many messages there can be without
-/// memory, at most `MAX_MEMBERS`.
+/// The kept messages of one stream, in rising order of number. Contracts see the list and its room:
+/// how many messages there can be without memory, at most `MAX_MEMBERS`.
 #[derive(Debug, Drop)]
 pub struct KeptList {
     items: VecDeque<Kept>,
@@ -37,7 +39,8 @@ impl Model for KeptList {
 
     ghost view = { λ l. record { items = l.items.items; room = l.room } };
 
-    ghost invariant = { λ l. (deque_len l.items ≤ l.room) × (l.room ≤ deque_capacity l.items) × (l.room ≤ MAX_MEMBERS) × Rises l.items.items };
+    ghost invariant = { λ l. (deque_len l.items ≤ l.room) × (l.room ≤ deque_capacity l.items)
+        × (l.room ≤ MAX_MEMBERS) × Rises l.items.items };
 }
 
 impl KeptList {
@@ -180,8 +183,9 @@ impl KeptList {
             .any(|kept| kept.message.keeps_dead())
     }
 
-    /// Drops the messages up to a number, which was acknowledged, but for those with the dead-letter bit: their fate is not known yet. Where
-    /// there are none of these, the messages above the number do not move.
+    /// Drops the messages up to a number, which was acknowledged, but for those with the
+    /// dead-letter bit: their fate is not known yet. Where there are none of these, the messages
+    /// above the number do not move.
     pub fn release(&mut self, number: u32)
         ensures { self.new ≡ record self.old { items = released number self.old.items } }
     {

@@ -1,5 +1,7 @@
-//! What follows from the definitions. Each function stands for a law: its contract is the law, and its body is empty.
-ghost use Rattle.mqb_orders.specs.Laws.{NextLeavesNoneOut, NextIsAbove, DecidedIsDuplicate, LinkIsGreatest, NextKeptIsLeast, BeforeStays, LinkIsBefore};
+//! What follows from the definitions. Each function stands for a law: its contract is the law,
+//! and its body is empty.
+ghost use Rattle.mqb_orders.specs.Laws.{NextLeavesNoneOut, NextIsAbove, DecidedIsDuplicate};
+ghost use Rattle.mqb_orders.specs.Laws.{LinkIsGreatest, NextKeptIsLeast, BeforeStays, LinkIsBefore};
 
 /// What is judged next leaves out no kept number.
 pub fn next_leaves_none_out()
@@ -26,7 +28,8 @@ pub fn next_kept_is_least()
     ensures { NextKeptIsLeast }
 {}
 
-/// The number that stands before an offered one never changes: nothing up to it is committed or expires any more.
+/// The number that stands before an offered one never changes: nothing up to it is committed
+/// or expires any more.
 pub fn before_stays()
     ensures { BeforeStays }
 {}

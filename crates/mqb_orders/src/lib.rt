@@ -1,7 +1,9 @@
-//! The order rules: what a packet is to its row, which messages of a stream are kept, and which number stands before one.
+//! The order rules: what a packet is to its row, which messages of a stream are kept, and which
+//! number stands before one.
 //!
-//! Contracts see a `KeptList` as its messages and its room. `specs/Streams.antt` says of a ledger's lines what is kept of a
-//! stream and what stands before a number, and the laws tie that to the rows and to the verdicts.
+//! Contracts see a `KeptList` as its messages and its room. `specs/Streams.antt` says of a ledger's
+//! lines what is kept of a stream and what stands before a number, and the laws tie that to the
+//! rows and to the verdicts.
 #![tactic(auto)]
 
 mod judging;

@@ -1,12 +1,14 @@
 ghost use Rattle.std.specs.Prelude.{◌≡◌, ◌<◌, ◌&&◌, length, map, Contains};
 ghost use Rattle.std.specs.List.{list_any};
 ghost use Rattle.mqb_orders.specs.KeptLists.{numbers};
-ghost use Rattle.mqb_orders.specs.Rows.{row_of, leads_to, has_unacknowledged, is_open, acknowledged};
+ghost use Rattle.mqb_orders.specs.Rows.{row_of, leads_to, has_unacknowledged};
+ghost use Rattle.mqb_orders.specs.Rows.{is_open, acknowledged};
 
 use crate::kept::KeptList;
 use mqb_base::{Guid, QueueName, SequenceId};
 
-/// The incoming row of one source and one destination name: its present sequence, and the last number of it that was decided.
+/// The incoming row of one source and one destination name: its present sequence, and the last
+/// number of it that was decided.
 #[derive(Clone, Debug, PartialEq, Eq, Drop)]
 pub struct InRow {
     pub source: Guid,
@@ -15,8 +17,8 @@ pub struct InRow {
     pub last: u32,
 }
 
-/// The outgoing row of one stream: how many messages were committed, the greatest number that was offered and the greatest that was
-/// acknowledged, and the messages that are kept.
+/// The outgoing row of one stream: how many messages were committed, the greatest number that was
+/// offered and the greatest that was acknowledged, and the messages that are kept.
 #[derive(Debug, Drop)]
 pub struct OutRow {
     pub peer: u32,
@@ -31,7 +33,8 @@ pub struct OutRow {
 impl OutRow {
     ghost use Rattle.mqb_orders.specs.Rows.{link_before, next_kept};
 
-    /// The number that stands before a kept one that is not acknowledged: the kept one before it, or the acknowledged one, which is 0 at first.
+    /// The number that stands before a kept one that is not acknowledged: the kept one before it,
+    /// or the acknowledged one, which is 0 at first.
     pub fn link_before(&self, n: u32) -> u32
         requires kept { Contains (numbers self.now.kept.items) n }
         requires unacknowledged { self.now.acked < n }
@@ -74,8 +77,9 @@ impl OutRow {
     }
 }
 
-/// Whether no earlier row than the one at `k` leads where it leads and has a number that was not acknowledged. Only of an open row messages are
-/// sent, so that a sequence begins once the one before it was delivered.
+/// Whether no earlier row than the one at `k` leads where it leads and has a number that was not
+/// acknowledged. Only of an open row messages are sent, so that a sequence begins once the one
+/// before it was delivered.
 pub fn is_open(rows: &[OutRow], k: u32) -> bool
     requires { k < length rows.now }
     ensures { result ≡ is_open (map row_of rows.now) k }

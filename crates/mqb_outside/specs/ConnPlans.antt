@@ -2,14 +2,19 @@ use Rattle.std.specs.Prelude.{ℕ, List, [], ◌∷◌, Option, Some, None, map}
 use Rattle.std.specs.Option.{option_map}
 use Rattle.mqb_outside.specs.declared.conn_plan.ConnPlan.{ConnPlan}
 
--- a connection that is to be given: what it holds, and the numbers of its reads and writes that fail
+-- a connection that is to be given: what it holds, and the numbers of its reads
+-- and writes that fail
 pub record Planned : Type 0 where
   pub bytes : List ℕ
   pub failing_reads : List ℕ
   pub failing_writes : List ℕ
 
 abbrev pub planned : ConnPlan → Planned
-planned plan = record { bytes = plan.bytes; failing_reads = plan.failing_reads.items; failing_writes = plan.failing_writes.items }
+planned plan = record {
+  bytes = plan.bytes;
+  failing_reads = plan.failing_reads.items;
+  failing_writes = plan.failing_writes.items;
+}
 
 abbrev pub planned_all : List (Option ConnPlan) → List (Option Planned)
 planned_all plans = map (λ plan. option_map planned plan) plans

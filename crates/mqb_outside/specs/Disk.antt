@@ -41,14 +41,17 @@ pub record Unchanged (old new : View) : Type 0 where
   pub reads : Same old.reads new.reads
   pub leaves : Same old.leaves new.leaves
 
--- Time goes on: a crash since t might have left what it might have left before, or what it may leave now.
+-- Time goes on: a crash since t might have left what it might have left before, or
+-- what it may leave now.
 pub record Elapses (old new : View) : Type 0 where
   pub later : old.moment ≤ new.moment
-  pub nothing_else : (t : ℕ) (c : List ℕ) → t ≤ old.moment → new.since t c → old.since t c ⊎ new.leaves c
+  pub nothing_else : (t : ℕ) (c : List ℕ) → t ≤ old.moment → new.since t c
+      → old.since t c ⊎ new.leaves c
   pub keeps : (t : ℕ) (c : List ℕ) → t ≤ old.moment → old.since t c → new.since t c
   pub keeping : new.keeps_calls ≡ old.keeps_calls
 
--- A crash now leaves a content that has P, and so does a crash at any moment since old, where such moments are told.
+-- A crash now leaves a content that has P, and so does a crash at any moment since old, where
+-- such moments are told.
 pub record LeavesOnly (old new : View) (P : List ℕ → Type 0) : Type 0 where
   pub now : Each new.leaves P
   pub later : old.moment ≤ new.moment

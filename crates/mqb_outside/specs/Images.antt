@@ -17,8 +17,8 @@ Follows step old new = (c : List ℕ) → new c → (d : List ℕ) × old d × s
 abbrev pub Written : ℕ → List ℕ → List ℕ → List ℕ → Type 0
 Written at bytes old new = new ≡ take at old ++ bytes ++ drop (at + length bytes) old
 
--- after a write of n bytes that a crash cuts short: any bytes in the range and past the old end, the same elsewhere,
--- and the part past the old end missing from any place on
+-- after a write of n bytes that a crash cuts short: any bytes in the range and past the old end,
+-- the same elsewhere, and the part past the old end missing from any place on
 pub record Torn (at n : ℕ) (old new : List ℕ) : Type 0 where
   pub before : take at new ≡ take at old
   pub after : drop (at + n) new ≡ drop (at + n) old

@@ -2,7 +2,8 @@ use Rattle.std.specs.Prelude.{ℕ, ◌+◌, min, List, nat_eq, Bool}
 use Rattle.std.specs.List.{list_any}
 use Rattle.mqb_outside.specs.Faults.{END}
 
--- the calls of an object in memory: how many were made, and the numbers, from 1, of those that are to fail
+-- the calls of an object in memory: how many were made, and the numbers, from 1, of
+-- those that are to fail
 pub record CallPlan : Type 0 where
   pub made : ℕ
   pub failing : List ℕ

@@ -5,7 +5,8 @@ ghost use Rattle.mqb_outside.specs.Plans.{planned, is_to_fail, called};
 use mqb_base::Memory;
 use std::alloc::Global;
 
-/// The calls of an object in memory: how many there were, which are to fail, and how often it has failed.
+/// The calls of an object in memory: how many there were, which are to fail, and how
+/// often it has failed.
 #[derive(Debug, Drop)]
 pub(crate) struct Calls {
     made: u64,

@@ -8,8 +8,8 @@ use mqb_base::Failed;
 
 /// A connection: a source and a sink, each with its own count of faults.
 ///
-/// `receive` and `send` are `read` and `write` with what these cannot say of the other half: a receive leaves what was sent, and a send leaves what
-/// is still to come.
+/// `receive` and `send` are `read` and `write` with what these cannot say of the other half: a
+/// receive leaves what was sent, and a send leaves what is still to come.
 pub trait Conn: Source + Sink {
     /// What it held when it was given, where it tells that.
     ghost given: { Self → Option (List ℕ) };
@@ -20,7 +20,8 @@ pub trait Conn: Source + Sink {
     /// The references that it holds: whoever lent them finds behind them what the connection left.
     ghost lent: { Self → List GName } = { λ _. [] };
 
-    /// Fills the front of `buf`, and says how much of it. For a `buf` that is not empty, 0 is the end of what comes.
+    /// Fills the front of `buf`, and says how much of it. For a `buf` that is not empty, 0 is
+    /// the end of what comes.
     fn receive(&mut self, buf: &mut [u8]) -> Result<usize, Failed>
         ensures reads { Reads (Self.held self.old) (Self.held self.new) buf.old buf.new result }
         ensures cause { HasCause (Self.read_faults self.old) (Self.read_faults self.new) result }

@@ -6,7 +6,8 @@ use crate::{Sink, Source};
 use mqb_base::{Bytes, Memory};
 use std::alloc::Global;
 
-/// A connection that a net in memory is to give: what it holds, and the numbers of its calls that fail, each counted from 1.
+/// A connection that a net in memory is to give: what it holds, and the numbers of its calls that
+/// fail, each counted from 1.
 #[derive(Debug, Drop)]
 pub struct ConnPlan {
     pub bytes: Bytes,
@@ -16,7 +17,8 @@ pub struct ConnPlan {
 
 impl ConnPlan {
     ghost use Rattle.mqb_outside.specs.ConnPlans.{planned};
-    ghost use Rattle.mqb_outside.specs.Conns.{IsAsPlanned, address_of, held_by, read_faults_of, taken_on, write_faults_of};
+    ghost use Rattle.mqb_outside.specs.Conns.{IsAsPlanned, address_of, held_by, read_faults_of};
+    ghost use Rattle.mqb_outside.specs.Conns.{taken_on, write_faults_of};
 
     /// The connection that is planned.
     pub(crate) fn open(&self, alloc: Global) -> Result<MemoryConn, Memory>

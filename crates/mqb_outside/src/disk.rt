@@ -1,7 +1,8 @@
 ghost use Rattle.std.specs.Prelude.{◌≡◌, ◌+◌, ◌^◌, ◌<◌, ◌≤◌, length, take, drop, IfOk, OnOk};
 ghost use Rattle.mqb_outside.specs.Faults.{HasCause};
 ghost use Rattle.mqb_outside.specs.Images.{Each, Same, Follows, Written, Torn, IsCut, MayBeCut};
-ghost use Rattle.mqb_outside.specs.Disk.{View, IsSettled, Unchanged, OnlyReads, Elapses, Counted, Lawful, reached_by};
+ghost use Rattle.mqb_outside.specs.Disk.{View, IsSettled, Unchanged, OnlyReads, Elapses, Counted};
+ghost use Rattle.mqb_outside.specs.Disk.{Lawful, reached_by};
 
 use mqb_base::Failed;
 
@@ -15,9 +16,11 @@ pub fn reach(reached: u64, at: u64, n: usize) -> u64
     reached.max(at.saturating_add(n as u64))
 }
 
-/// A store of bytes that a crash may tear. What was written is safe once a sync after it has answered Ok.
+/// A store of bytes that a crash may tear. What was written is safe once a sync
+/// after it has answered Ok.
 ///
-/// A write or a cut that answers `Failed` counts as made and not synced, whether or not it took effect. No disk is longer than `MAX_DISK`.
+/// A write or a cut that answers `Failed` counts as made and not synced, whether or not it took
+/// effect. No disk is longer than `MAX_DISK`.
 pub trait Disk {
     /// All that is told of it.
     ghost view: { Self → View };
@@ -41,7 +44,8 @@ pub trait Disk {
         ensures calls { Counted 1 (view self.old).calls (view self.new).calls }
         ensures cause { HasCause (view self.old).faults (view self.new).faults result };
 
-    /// Writes over what is there, and past the end. Until a sync a crash may leave any bytes in the range.
+    /// Writes over what is there, and past the end. Until a sync a crash may leave
+    /// any bytes in the range.
     fn write_at(&mut self, at: u64, bytes: &[u8]) -> Result<(), Failed>
         requires place { Each (view self.old).reads (λ c. at ≤ length c) }
         requires range { at + length bytes.now < 2 ^ 64 }

@@ -1,10 +1,13 @@
-//! The outside on which managers and the program stand, as traits: sources, sinks, media of packets, disks and their power, clocks, connections and nets.
+//! The outside on which managers and the program stand, as traits: sources, sinks, media of
+//! packets, disks and their power, clocks, connections and nets.
 //!
-//! A contract names what an object holds, took or may leave where the object tells it. A form in memory does; a file, a socket and a terminal tell
-//! nothing, and then such a clause says nothing. So one statement serves both. Each object counts its faults: a call answers `Failed` only where a
-//! count rose in that call.
+//! A contract names what an object holds, took or may leave where the object tells it. A form in
+//! memory does; a file, a socket and a terminal tell nothing, and then such a clause says nothing.
+//! So one statement serves both. Each object counts its faults: a call answers `Failed` only where
+//! a count rose in that call.
 //!
-//! The contract of `Disk` says what a read gives and what a crash may leave. The lemmas by which a run of its calls goes on stand in `specs/lemmas`.
+//! The contract of `Disk` says what a read gives and what a crash may leave. The lemmas by which a
+//! run of its calls goes on stand in `specs/lemmas`.
 #![tactic(auto)]
 
 mod calls;

@@ -1,4 +1,5 @@
-ghost use Rattle.std.specs.Prelude.{◌≡◌, ◌↔◌, ◌+◌, ◌<◌, ◌≤◌, [], Some, None, IsTrue, IsErr, IfOk, length};
+ghost use Rattle.std.specs.Prelude.{◌≡◌, ◌↔◌, ◌+◌, ◌<◌, ◌≤◌, [], Some, None, IsTrue, IsErr};
+ghost use Rattle.std.specs.Prelude.{IfOk, length};
 ghost use Rattle.mqb_outside.specs.Told.{Reads, Writes};
 ghost use Rattle.mqb_outside.specs.Faults.{HasCause};
 
@@ -22,7 +23,8 @@ impl MemoryConn {
     ghost use Rattle.mqb_outside.specs.Plans.{planned, is_to_fail, called};
     ghost use Rattle.mqb_outside.specs.Conns.{held_by, taken_on, reads_of, writes_of};
 
-    /// It holds a copy of `bytes`. `failing_reads` and `failing_writes` are the numbers of the calls that fail, each counted from 1.
+    /// It holds a copy of `bytes`. `failing_reads` and `failing_writes` are the numbers of the
+    /// calls that fail, each counted from 1.
     pub fn new(
         alloc: Global,
         bytes: &[u8],
@@ -146,7 +148,8 @@ impl Sink for MemoryConn {
 
 impl Conn for MemoryConn {
     ghost use Rattle.mqb_outside.specs.Plans.{is_to_fail, called};
-    ghost use Rattle.mqb_outside.specs.Conns.{address_of, given_to, held_by, read_faults_of, reads_of, taken_on, write_faults_of, writes_of};
+    ghost use Rattle.mqb_outside.specs.Conns.{address_of, given_to, held_by, read_faults_of};
+    ghost use Rattle.mqb_outside.specs.Conns.{reads_of, taken_on, write_faults_of, writes_of};
 
     ghost given = { given_to };
 

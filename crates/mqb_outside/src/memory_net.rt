@@ -1,4 +1,5 @@
-ghost use Rattle.std.specs.Prelude.{◌≡◌, ◌+◌, ◌-◌, ◌≤◌, ℕ, [], Some, vec_len, vec_capacity, map, IfOk, IfSome, OnOk, OnErr, None};
+ghost use Rattle.std.specs.Prelude.{◌≡◌, ◌+◌, ◌-◌, ◌≤◌, ℕ, [], Some, vec_len, vec_capacity, map};
+ghost use Rattle.std.specs.Prelude.{IfOk, IfSome, OnOk, OnErr, None};
 ghost use Rattle.mqb_outside.specs.Faults.{HasCause, Rose};
 
 use crate::conn::Conn;
@@ -30,7 +31,8 @@ impl MemoryNet {
     ghost use Rattle.mqb_outside.specs.NetPlans.{upcoming};
     ghost use Rattle.mqb_outside.specs.Conns.{IsAsPlanned, held_by, taken_on};
 
-    /// What its calls of `accept` and `connect` give, in order: each `None` is a call that fails, and so is each call past the end.
+    /// What its calls of `accept` and `connect` give, in order: each `None` is a call that fails,
+    /// and so is each call past the end.
     pub fn new(alloc: Global, plans: Vec<Option<ConnPlan>>) -> Result<MemoryNet, Memory>
         ensures finished { IfOk result (λ net. ⟦<MemoryNet as Net>⟧.finished net ≡ Some []) }
         ensures unfinished { IfOk result (λ net. ⟦<MemoryNet as Net>⟧.unfinished net ≡ Some 0) }
@@ -142,10 +144,13 @@ impl MemoryNet {
 impl Net for MemoryNet {
     type C = MemoryConn;
 
-    ghost use Rattle.std.specs.Prelude.{◌<◌, ◌∷◌, ◌++◌, ◌≢◌, ◌↔◌, Ok, drop, false, length, IsErr, IsTrue};
+    ghost use Rattle.std.specs.Prelude.{◌<◌, ◌∷◌, ◌++◌, ◌≢◌, ◌↔◌, Ok, drop, false, length};
+    ghost use Rattle.std.specs.Prelude.{IsErr, IsTrue};
     ghost use Rattle.mqb_outside.specs.ConnPlans.{first_of};
-    ghost use Rattle.mqb_outside.specs.NetPlans.{faults_of, idle_of, lost_by, still_out, taken_back, upcoming};
-    ghost use Rattle.mqb_outside.specs.Conns.{IsAsPlanned, address_of, held_by, read_faults_of, taken_on, write_faults_of};
+    ghost use Rattle.mqb_outside.specs.NetPlans.{faults_of, idle_of, lost_by, still_out};
+    ghost use Rattle.mqb_outside.specs.NetPlans.{taken_back, upcoming};
+    ghost use Rattle.mqb_outside.specs.Conns.{IsAsPlanned, address_of, held_by, read_faults_of};
+    ghost use Rattle.mqb_outside.specs.Conns.{taken_on, write_faults_of};
 
     ghost faults = { faults_of };
 

@@ -1,4 +1,5 @@
-ghost use Rattle.std.specs.Prelude.{◌≡◌, ◌≢◌, ◌+◌, ◌-◌, ◌<◌, ℕ, List, [], ◌∷◌, ◌++◌, Option, Some, None, Ok, false, IfOk, OnOk, OnErr, IfSome, IsSome};
+ghost use Rattle.std.specs.Prelude.{◌≡◌, ◌≢◌, ◌+◌, ◌-◌, ◌<◌, ℕ, List, [], ◌∷◌, ◌++◌, Option, Some};
+ghost use Rattle.std.specs.Prelude.{None, Ok, false, IfOk, OnOk, OnErr, IfSome, IsSome};
 ghost use Rattle.std.specs.Option.{option_map};
 ghost use Rattle.mqb_outside.specs.Faults.{Rose, HasCause};
 ghost use Rattle.mqb_outside.specs.Net.{Ended};
@@ -6,7 +7,8 @@ ghost use Rattle.mqb_outside.specs.Net.{Ended};
 use crate::conn::Conn;
 use mqb_base::Failed;
 
-/// Gives connections and takes them back. It counts the calls that gave none, the waits in which no peer came, and the connections that were lost.
+/// Gives connections and takes them back. It counts the calls that gave none, the waits in which no
+/// peer came, and the connections that were lost.
 pub trait Net {
     type C: Conn;
 
@@ -25,7 +27,8 @@ pub trait Net {
     /// How many it gave that are not taken back, where it tells that.
     ghost unfinished: { Self → Option ℕ };
 
-    /// Waits for a peer that connects, for so many seconds at most, and says whether one came: `accept` then gives its connection.
+    /// Waits for a peer that connects, for so many seconds at most, and says whether one came:
+    /// `accept` then gives its connection.
     fn await_peer(&mut self, seconds: u32) -> Result<bool, Failed>
         ensures none_came { result ≡ Ok false → Rose (idle self.old) (idle self.new) }
         ensures came { result ≢ Ok false → idle self.new ≡ idle self.old }

@@ -34,7 +34,8 @@ pub trait Power: Disk {
 
     ghost is_stopped: { Self → Bool };
 
-    /// Arms the device call that comes as the `call`-th from now, counted from 1, in place of one that was armed.
+    /// Arms the device call that comes as the `call`-th from now, counted from 1, in place
+    /// of one that was armed.
     fn arm(&mut self, call: u32, mode: Mode)
         requires { 1 ≤ call }
         ensures armed { armed self.new ≡ Some (call, mode) }

@@ -1,4 +1,5 @@
-ghost use Rattle.std.specs.Prelude.{◌≡◌, ◌<◌, ◌≤◌, ℕ, List, [], Option, Some, None, length, take, IfOk, OnErr};
+ghost use Rattle.std.specs.Prelude.{◌≡◌, ◌<◌, ◌≤◌, ℕ, List, [], Option, Some, None, length, take};
+ghost use Rattle.std.specs.Prelude.{IfOk, OnErr};
 ghost use Rattle.mqb_outside.specs.Told.{Took, Writes};
 ghost use Rattle.mqb_outside.specs.Faults.{HasCause};
 
@@ -36,7 +37,8 @@ impl MemorySink {
     ghost use Rattle.mqb_outside.specs.Plans.{planned};
     ghost use Rattle.mqb_outside.specs.Forms.{writes_of};
 
-    /// It has taken nothing, and fails at the calls that `failing` names, counted from 1, and where memory runs out.
+    /// It has taken nothing, and fails at the calls that `failing` names, counted from 1, and
+    /// where memory runs out.
     pub fn new(alloc: Global, failing: &[u32]) -> Result<MemorySink, Memory>
         ensures taken { IfOk result (λ sink. ⟦<MemorySink as Sink>⟧.taken sink ≡ Some []) }
         ensures faults { IfOk result (λ sink. ⟦<MemorySink as Sink>⟧.write_faults sink ≡ 0) }

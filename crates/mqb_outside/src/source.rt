@@ -1,4 +1,5 @@
-ghost use Rattle.std.specs.Prelude.{◌≡◌, ◌<◌, ◌≤◌, ℕ, List, [], Option, None, length, take, min, vec_len, IfOk, IfSome, OnErr};
+ghost use Rattle.std.specs.Prelude.{◌≡◌, ◌<◌, ◌≤◌, ℕ, List, [], Option, None, length, take, min};
+ghost use Rattle.std.specs.Prelude.{vec_len, IfOk, IfSome, OnErr};
 ghost use Rattle.mqb_outside.specs.Told.{Gave};
 ghost use Rattle.mqb_outside.specs.Faults.{HasCause};
 
@@ -15,7 +16,8 @@ pub trait Source {
     /// How often it has failed.
     ghost read_faults: { Self → ℕ };
 
-    /// Fills the front of `buf`, and says how much of it. For a `buf` that is not empty, 0 is the end of input.
+    /// Fills the front of `buf`, and says how much of it. For a `buf` that is not empty, 0
+    /// is the end of input.
     fn read(&mut self, buf: &mut [u8]) -> Result<usize, Failed>
         ensures within { IfOk result (λ n. n ≤ length buf.old) }
         ensures gave { IfOk result (λ n. Gave (held self.old) (held self.new) (take n buf.new)) }

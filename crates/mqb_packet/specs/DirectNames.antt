@@ -7,8 +7,8 @@ use Rattle.mqb_heads.specs.mqb_names.Grammar.{◌then◌, Exactly, Word, HostTex
 use Rattle.mqb_heads.specs.mqb_names.Printed.{path}
 use Rattle.mqb_heads.specs.mqb_names.Wire.{direct_wire}
 
--- The count of a text's UTF-16 units, and the units, each an ASCII character: a host behind its protocol, the path, whose letters have either case, and
--- a queue.
+-- The count of a text's UTF-16 units, and the units, each an ASCII character: a host behind its
+-- protocol, the path, whose letters have either case, and a queue.
 pub record IsDirectWire (host : Host) (queue bytes : List ℕ) : Type 0 where
   pub text : List ℕ
   pub ascii : AllByRecursion (λ b. b < 0x80) text

@@ -34,4 +34,5 @@ OptionalForm Form (Some x) = Form x
 
 -- a header, and bytes up to a multiple of 4, which may be any
 abbrev pub Padded : (List ℕ → Type 0) → List ℕ → Type 0
-Padded Form bytes = (head : List ℕ) × (pad : List ℕ) × (head ++ pad ≡ bytes) × Form head × (length pad ≡ padding (length head))
+Padded Form bytes = (head : List ℕ) × (pad : List ℕ) × (head ++ pad ≡ bytes) × Form head
+    × (length pad ≡ padding (length head))

@@ -1,5 +1,6 @@
 -- What a list of bytes says as a packet, and the first fault of one that is no packet.
-use Rattle.std.specs.Prelude.{ℕ, ◌==◌, Bool, List, length, Option, Some, None, Result, Ok, Err, if◌then◌else◌}
+use Rattle.std.specs.Prelude.{ℕ, ◌==◌, Bool, List, length, Option, Some, None, Result, Ok}
+use Rattle.std.specs.Prelude.{Err, if◌then◌else◌}
 use Rattle.mqb_base.specs.declared.heads.SessionHead.{SessionHead}
 use Rattle.mqb_base.specs.declared.heads.TxHead.{TxHead}
 use Rattle.mqb_fields.specs.declared.faults.HeadFault.{HeadFault}
@@ -53,12 +54,14 @@ abbrev pub seen : Result PacketView HeadFault → Result PacketParts HeadFault
 seen (Ok view) = Ok (seen_packet view)
 seen (Err fault) = Err fault
 
-abbrev pub some_head : {X : Type 0} → Result (X × Reading) HeadFault → Result (Option X × Reading) HeadFault
+abbrev pub some_head : {X : Type 0} → Result (X × Reading) HeadFault
+    → Result (Option X × Reading) HeadFault
 some_head (Ok head) = Ok (Some head.0, head.1)
 some_head (Err fault) = Err fault
 
 -- a header that is there only where a flag says so
-abbrev pub head_if : {X : Type 0} → Bool → (Reading → Result (X × Reading) HeadFault) → Reading → Result (Option X × Reading) HeadFault
+abbrev pub head_if : {X : Type 0} → Bool → (Reading → Result (X × Reading) HeadFault) → Reading
+    → Result (Option X × Reading) HeadFault
 head_if present head_at r = if present then some_head (head_at r) else Ok (None, r)
 
 unfoldable pub user_parts_at : BaseHead → List ℕ → Reading → Result (UserParts × Reading) HeadFault
@@ -67,7 +70,17 @@ user_parts_at base whole r = do
   tx ← head_if user.0.transaction tx_at user.1
   props ← props_at tx.1
   session ← head_if base.session session_at props.1
-  Ok (record { base = base; user = user.0; tx = tx.0; props = props.0; session = session.0; whole = whole }, session.1)
+  Ok (
+    record {
+      base = base;
+      user = user.0;
+      tx = tx.0;
+      props = props.0;
+      session = session.0;
+      whole = whole;
+    },
+    session.1,
+  )
 
 abbrev pub internal_parts_at : Reading → Result (PacketParts × Reading) HeadFault
 internal_parts_at r = do

@@ -1,5 +1,6 @@
 -- The plain spelling of a packet: reserved bytes, padding and unused bits are 0.
-use Rattle.std.specs.Prelude.{◌≡◌, ℕ, ◌+◌, Bool, true, false, is_some, List, [], ◌++◌, Option, Some, None}
+use Rattle.std.specs.Prelude.{◌≡◌, ℕ, ◌+◌, Bool, true, false, is_some, List, [], ◌++◌, Option}
+use Rattle.std.specs.Prelude.{Some, None}
 use Rattle.mqb_base.specs.declared.heads.SessionHead.{SessionHead}
 use Rattle.mqb_base.specs.declared.heads.TxHead.{TxHead}
 use Rattle.mqb_base.specs.declared.message.Message.{Message}
@@ -22,19 +23,28 @@ use Rattle.mqb_packet.specs.declared.packet.Packet.TheVariants as packet
 use Rattle.mqb_packet.specs.declared.packet.UserPacket.{UserPacket}
 use Rattle.mqb_packet.specs.Parts.{PacketParts, UserParts, User, Internal}
 
--- A user packet that may be written, its size left aside: the transaction header is there exactly in a transactional one.
+-- A user packet that may be written, its size left aside: the transaction header is there exactly
+-- in a transactional one.
 pub record IsWellFormedUser (user : UserPacket) : Type 0 where
   pub message : IsWellFormed user.message
   pub tx : is_some user.tx ≡ is_transactional user.message.delivery
   pub reach : user.message.reach ≡ user.remaining
 
--- the user packet of a lent message, whose time to reach its queue is what the packet has left of it
+-- the user packet of a lent message, whose time to reach its queue is what the
+-- packet has left of it
 abbrev pub carried_user : Message → Carriage → UserPacket
-carried_user m c = record { message = record m { reach = c.remaining }; to = c.to; remaining = c.remaining; tx = c.tx; session = c.session }
+carried_user m c = record {
+  message = record m { reach = c.remaining };
+  to = c.to;
+  remaining = c.remaining;
+  tx = c.tx;
+  session = c.session;
+}
 
 -- what a user packet has beside its message
 abbrev pub carriage_of : UserPacket → Carriage
-carriage_of user = record { to = user.to; remaining = user.remaining; tx = user.tx; session = user.session }
+carriage_of user =
+    record { to = user.to; remaining = user.remaining; tx = user.tx; session = user.session }
 
 -- a packet that may be written, its size left aside
 abbrev pub IsWellFormedPacket : Packet → Type 0
@@ -59,7 +69,8 @@ abbrev pub session_size : Option SessionHead → ℕ
 session_size None = 0
 session_size (Some head) = SESSION_SIZE
 
--- how many bytes a message's packet has with so many bytes of a transaction header and of a session header
+-- how many bytes a message's packet has with so many bytes of a transaction header
+-- and of a session header
 abbrev pub size_with : Message → (tx session : ℕ) → ℕ
 size_with m tx session = BASE_SIZE + user_size m + tx + props_size m + session
 
@@ -80,20 +91,32 @@ packet_size (packet.Parameters parameters) = 32
 packet_size (packet.Ack head) = 36
 
 abbrev pub base_for : UserPacket → BaseHead
-base_for user = record { priority = user.message.priority; internal = false; session = is_some user.session; size = user_packet_size user; reach = user.remaining }
+base_for user = record {
+  priority = user.message.priority;
+  internal = false;
+  session = is_some user.session;
+  size = user_packet_size user;
+  reach = user.remaining;
+}
 
 abbrev pub plain_user_packet : UserPacket → List ℕ
-plain_user_packet user = plain_base (base_for user) ++ plain_user user.message user.to ++ tx_or_none user.tx ++ plain_props user.message ++ session_or_none user.session
+plain_user_packet user = plain_base (base_for user) ++ plain_user user.message user.to
+    ++ tx_or_none user.tx ++ plain_props user.message ++ session_or_none user.session
 
--- The base header of an internal packet has no priority and no limit of time. A session header is there in an acknowledgement alone.
+-- The base header of an internal packet has no priority and no limit of time. A session header is
+-- there in an acknowledgement alone.
 abbrev pub internal_base : (session : Bool) → (size : ℕ) → BaseHead
-internal_base session size = record { priority = 0; internal = true; session = session; size = size; reach = UNLIMITED }
+internal_base session size =
+    record { priority = 0; internal = true; session = session; size = size; reach = UNLIMITED }
 
 abbrev pub plain_spelling : Packet → List ℕ
 plain_spelling (packet.User user) = plain_user_packet user
-plain_spelling (packet.Establish establish) = plain_base (internal_base false 572) ++ plain_internal (part.Establish establish)
-plain_spelling (packet.Parameters parameters) = plain_base (internal_base false 32) ++ plain_internal (part.Parameters parameters)
-plain_spelling (packet.Ack head) = plain_base (internal_base true 36) ++ plain_internal (part.Ack head)
+plain_spelling (packet.Establish establish) =
+    plain_base (internal_base false 572) ++ plain_internal (part.Establish establish)
+plain_spelling (packet.Parameters parameters) =
+    plain_base (internal_base false 32) ++ plain_internal (part.Parameters parameters)
+plain_spelling (packet.Ack head) =
+    plain_base (internal_base true 36) ++ plain_internal (part.Ack head)
 
 abbrev pub user_parts_of : UserPacket → UserParts
 user_parts_of user = record {

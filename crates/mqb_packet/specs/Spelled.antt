@@ -1,5 +1,6 @@
 -- The packet that bytes spell.
-use Rattle.std.specs.Prelude.{◌≡◌, ℕ, ◌+◌, ◌*◌, Bool, true, false, is_some, List, [], ◌∷◌, Option, Some, None, option_map, option_and_then, Ok, if◌then◌else◌}
+use Rattle.std.specs.Prelude.{◌≡◌, ℕ, ◌+◌, ◌*◌, Bool, true, false, is_some, List, [], ◌∷◌, Option}
+use Rattle.std.specs.Prelude.{Some, None, option_map, option_and_then, Ok, if◌then◌else◌}
 use Rattle.mqb_base.specs.declared.message.Delivery.{Delivery}
 use Rattle.mqb_base.specs.declared.message.Delivery.TheVariants as delivery
 use Rattle.mqb_base.specs.declared.message.Message.{Message}
@@ -27,13 +28,15 @@ abbrev pub optional_name_in : Option WireName → Option (Option QueueName)
 optional_name_in None = Some None
 optional_name_in (Some name) = option_map (λ queue. Some queue) (name_in name)
 
--- A packet with a transaction header is transactional, and any other is recoverable or express by its flag.
+-- A packet with a transaction header is transactional, and any other is recoverable or
+-- express by its flag.
 abbrev pub delivery_of : (transaction recoverable : Bool) → Delivery
 delivery_of true recoverable = delivery.Transactional
 delivery_of false true = delivery.Recoverable
 delivery_of false false = delivery.Express
 
--- The message of a packet with these names. Its time to reach the queue is the packet's remaining time.
+-- The message of a packet with these names. Its time to reach the queue is the
+-- packet's remaining time.
 abbrev pub message_with : UserParts → QueueName → Option QueueName → Option QueueName → Message
 message_with parts destination admin response = record {
   id = record { qm = parts.user.source; number = parts.user.number };
@@ -59,16 +62,24 @@ message_with parts destination admin response = record {
 abbrev pub message_in : UserParts → Option Message
 message_in parts = option_and_then (λ destination.
     option_and_then (λ admin.
-    option_map (λ response. message_with parts destination admin response) (optional_name_in parts.user.response))
+    option_map (λ response. message_with parts destination admin response)
+    (optional_name_in parts.user.response))
     (optional_name_in parts.user.admin))
     (name_in parts.user.destination)
 
 abbrev pub user_packet : UserParts → Message → UserPacket
-user_packet parts message = record { message = message; to = parts.user.target; remaining = parts.base.reach; tx = parts.tx; session = parts.session }
+user_packet parts message = record {
+  message = message;
+  to = parts.user.target;
+  remaining = parts.base.reach;
+  tx = parts.tx;
+  session = parts.session;
+}
 
 -- the packet that says these parts
 abbrev pub packet_in : PacketParts → Option Packet
-packet_in (User parts) = option_map (λ message. packet.User (user_packet parts message)) (message_in parts)
+packet_in (User parts) =
+    option_map (λ message. packet.User (user_packet parts message)) (message_in parts)
 packet_in (Internal (part.Establish establish)) = Some (packet.Establish establish)
 packet_in (Internal (part.Parameters parameters)) = Some (packet.Parameters parameters)
 packet_in (Internal (part.Ack head)) = Some (packet.Ack head)

@@ -13,21 +13,25 @@ ghost use Rattle.mqb_packet.specs.DirectNames.{IsDirectWire};
 ghost use Rattle.mqb_packet.specs.Grammar.{IsPacketForm};
 ghost use Rattle.mqb_packet.specs.ReadPackets.{IsReadOf};
 
-/// Bytes are read as a packet exactly where they spell it: the headers in order, each with its fields in order, and no byte more.
+/// Bytes are read as a packet exactly where they spell it: the headers in order, each with its
+/// fields in order, and no byte more.
 pub fn packet_is_read()
     ensures { (bytes : List ℕ) (parts : PacketParts) → (packet_of bytes ≡ Ok parts) ↔
         IsPacketForm parts bytes }
 {}
 
-/// Bytes are the wire form of a direct name exactly where their units are a text of it, its words in either case.
+/// Bytes are the wire form of a direct name exactly where their units are a text of it, its
+/// words in either case.
 pub fn direct_name_is_read()
     ensures { (host : Host) (queue bytes : List ℕ) → IsHost host → IsName queue →
         All (λ b. b < 256) bytes →
-        ((length_at 3 bytes ≡ Ok (length bytes)) × (spelled 3 bytes ≡ Some (Direct host queue false))) ↔ IsDirectWire host queue bytes }
+        ((length_at 3 bytes ≡ Ok (length bytes))
+        × (spelled 3 bytes ≡ Some (Direct host queue false))) ↔ IsDirectWire host queue bytes }
 {}
 
-/// A user packet that was read can be written: its numbers fit their types, its names are names, and its plain spelling is not longer than what was read,
-/// in which bytes that are kept for a body may follow it.
+/// A user packet that was read can be written: its numbers fit their types, its names are
+/// names, and its plain spelling is not longer than what was read, in which bytes that are kept
+/// for a body may follow it.
 pub fn read_is_written()
     ensures well_formed { (bytes : List ℕ) (user : UserPacket) → IsReadOf bytes user →
         IsWellFormedUser user }

@@ -2,7 +2,8 @@ ghost use Rattle.std.specs.Prelude.{◌≡◌, ℕ, List, IfOk};
 ghost use Rattle.mqb_fields.specs.Reading.{Reads, ReadsAs};
 ghost use Rattle.mqb_heads.specs.Transactions.{tx_at};
 ghost use Rattle.mqb_setup.specs.Sessions.{session_at};
-ghost use Rattle.mqb_packet.specs.Parts.{head_if, internal_parts_at, packet_of, parts_at, seen, seen_packet, seen_user, user_packet_at, user_parts_at};
+ghost use Rattle.mqb_packet.specs.Parts.{head_if, internal_parts_at, packet_of, parts_at, seen};
+ghost use Rattle.mqb_packet.specs.Parts.{seen_packet, seen_user, user_packet_at, user_parts_at};
 ghost use Rattle.mqb_packet.specs.Spelled.{IsLent, Lends};
 
 use mqb_base::{SessionHead, TxHead};
@@ -109,7 +110,8 @@ fn read_parts<'a>(
     }
 }
 
-/// Reads the packet that these bytes are, all of them, and lends its parts. The first fault from the left is answered.
+/// Reads the packet that these bytes are, all of them, and lends its parts. The first fault from
+/// the left is answered.
 #[tactic(auto, unfolding(crate::specs::Parts::packet_of))]
 pub fn view(bytes: &[u8]) -> Result<PacketView<'_>, HeadFault>
     ensures packet { seen result ≡ packet_of bytes.now }

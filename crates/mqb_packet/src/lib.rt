@@ -1,11 +1,14 @@
 //! Whole packets: a user packet, which carries a message, and the internal packets of a session.
 //!
-//! `view` reads a packet without memory, and lends its parts as slices of the bytes that it was given. What it answers is `packet_of` of `specs/`, the
-//! grammar of packets. `put_packet` writes the one plain spelling of a packet, and what is written is read again as the same packet. `put_message` is
-//! for a caller who keeps the message.
+//! `view` reads a packet without memory, and lends its parts as slices of the bytes that it was
+//! given. What it answers is `packet_of` of `specs/`, the grammar of packets. `put_packet` writes
+//! the one plain spelling of a packet, and what is written is read again as the same packet.
+//! `put_message` is for a caller who keeps the message.
 //!
-//! The grammar is also said as a relation that names each field in turn: `Forms` says which bytes spell a field, and `Grammar` puts fields, headers and
-//! packets together. `packet_of` answers a packet exactly where the relation holds. What was read of a user packet can be written again, and no longer.
+//! The grammar is also said as a relation that names each field in turn: `Forms` says which
+//! bytes spell a field, and `Grammar` puts fields, headers and packets together. `packet_of`
+//! answers a packet exactly where the relation holds. What was read of a user packet can be
+//! written again, and no longer.
 #![tactic(auto)]
 
 mod faults;

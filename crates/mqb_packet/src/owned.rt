@@ -1,11 +1,13 @@
-ghost use Rattle.std.specs.Prelude.{◌≡◌, ◌≤◌, ◌*◌, length, is_some, IfOk, IfSome, Some, option_map, take};
+ghost use Rattle.std.specs.Prelude.{◌≡◌, ◌≤◌, ◌*◌, length, is_some, IfOk, IfSome, Some};
+ghost use Rattle.std.specs.Prelude.{option_map, take};
 ghost use Rattle.mqb_heads.specs.Fields.{seen_name};
 ghost use Rattle.mqb_heads.specs.Properties.{IsPropsRead, seen_props};
 ghost use Rattle.mqb_heads.specs.User.{IsNameRead, IsUserRead};
 ghost use Rattle.mqb_heads.specs.User as heads;
 ghost use Rattle.mqb_packet.specs.Parts.{seen_packet, seen_user};
 ghost use Rattle.mqb_packet.specs.Plain.{IsWellFormedPacket};
-ghost use Rattle.mqb_packet.specs.Spelled.{IsLent, delivery_of, message_in, optional_name_in, packet_in, units_of, user_packet};
+ghost use Rattle.mqb_packet.specs.Spelled.{IsLent, delivery_of, message_in, optional_name_in};
+ghost use Rattle.mqb_packet.specs.Spelled.{packet_in, units_of, user_packet};
 
 use crate::lent::{PacketView, UserView};
 use crate::packet::{Packet, UserPacket};

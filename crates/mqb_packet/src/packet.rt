@@ -4,8 +4,8 @@ ghost use Rattle.mqb_packet.specs.Plain.{carriage_of};
 use mqb_base::{Guid, Message, SessionHead, TxHead};
 use mqb_setup::{Establish, Parameters};
 
-/// What a user packet has beside its message: the manager to which it goes, the seconds that are left for its message to reach its queue, and its
-/// headers.
+/// What a user packet has beside its message: the manager to which it goes, the seconds that are
+/// left for its message to reach its queue, and its headers.
 #[derive(Clone, Copy, Debug, PartialEq, Eq)]
 pub struct Carriage {
     pub to: Guid,
@@ -14,7 +14,8 @@ pub struct Carriage {
     pub session: Option<SessionHead>,
 }
 
-/// Which headers are counted with a message's own: none, a session header, or a transaction header and a session header.
+/// Which headers are counted with a message's own: none, a session header, or a transaction header
+/// and a session header.
 #[derive(Clone, Copy, Debug, PartialEq, Eq)]
 pub enum Headers {
     Bare,
@@ -22,8 +23,8 @@ pub enum Headers {
     TxAndSession,
 }
 
-/// A message on its way to the manager `to`. `remaining` is the seconds that are left for it to reach its queue, of which 0xFFFFFFFF are without
-/// limit.
+/// A message on its way to the manager `to`. `remaining` is the seconds that are left for it to
+/// reach its queue, of which 0xFFFFFFFF are without limit.
 #[derive(Clone, Debug, PartialEq, Eq, Drop)]
 pub struct UserPacket {
     pub message: Message,

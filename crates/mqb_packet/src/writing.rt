@@ -1,4 +1,5 @@
-ghost use Rattle.std.specs.Prelude.{◌≡◌, ◌≢◌, ◌≤◌, ◌<◌, ◌+◌, ◌++◌, ◌↔◌, ◌^◌, Err, length, replicate, IfOk, IsErr, IsOk, OnOk, OnErr};
+ghost use Rattle.std.specs.Prelude.{◌≡◌, ◌≢◌, ◌≤◌, ◌<◌, ◌+◌, ◌++◌, ◌↔◌, ◌^◌, Err, length};
+ghost use Rattle.std.specs.Prelude.{replicate, IfOk, IsErr, IsOk, OnOk, OnErr};
 ghost use Rattle.std.specs.Vec.{vec_capacity};
 ghost use Rattle.mqb_base.specs.Messages.{IsWellFormed};
 ghost use Rattle.mqb_heads.specs.Base.{plain_base};
@@ -7,7 +8,11 @@ ghost use Rattle.mqb_heads.specs.User.{FitsUser, plain_user, user_size};
 ghost use Rattle.mqb_fields.specs.Writing.{Wrote};
 ghost use Rattle.mqb_setup.specs.Internals.{plain_internal};
 ghost use Rattle.mqb_packet.specs.declared.packet.Packet.TheVariants as packet;
-ghost use Rattle.mqb_packet.specs.Plain.{IsWellFormedPacket, IsWellFormedUser, base_for, carried_user, internal_base, message_size, packet_size, size_with, plain_spelling, plain_user_packet, session_or_none, session_size, tx_or_none, tx_size, user_packet_size};
+ghost use Rattle.mqb_packet.specs.Plain.{IsWellFormedPacket, IsWellFormedUser, base_for};
+ghost use Rattle.mqb_packet.specs.Plain.{carried_user, internal_base, message_size, packet_size};
+ghost use Rattle.mqb_packet.specs.Plain.{size_with, plain_spelling, plain_user_packet};
+ghost use Rattle.mqb_packet.specs.Plain.{session_or_none, session_size, tx_or_none};
+ghost use Rattle.mqb_packet.specs.Plain.{tx_size, user_packet_size};
 
 use crate::faults::{PutFault, TooLarge};
 use crate::packet::{Carriage, Headers, Packet};
@@ -44,7 +49,8 @@ fn session_len(head: &Option<SessionHead>) -> usize
     if head.is_some() { SESSION_SIZE } else { 0 }
 }
 
-/// How many bytes a message's packet has with so many bytes of a transaction header and of a session header.
+/// How many bytes a message's packet has with so many bytes of a transaction header and
+/// of a session header.
 fn size_with(message: &Message, tx: usize, session: usize) -> Result<u32, TooLarge>
     requires message { IsWellFormed message.now }
     requires tx { tx ≤ TX_SIZE }
@@ -63,7 +69,8 @@ fn size_with(message: &Message, tx: usize, session: usize) -> Result<u32, TooLar
     Ok(size as u32)
 }
 
-/// How many bytes the plain spelling of a message's packet has with these headers, without writing it.
+/// How many bytes the plain spelling of a message's packet has with these
+/// headers, without writing it.
 pub fn message_size(message: &Message, headers: Headers) -> Result<u32, TooLarge>
     requires { IsWellFormed message.now }
     ensures size { IfOk result (λ size. size ≡ message_size headers message.now) }
@@ -225,8 +232,9 @@ fn put_room(out: &mut Vec<u8>, size: u32) -> Result<usize, AllocError>
     Ok(start)
 }
 
-/// Appends the plain spelling of a user packet whose message is lent. The message's own time to reach its queue is not spelled: the packet has what
-/// is left of it. `out` is unchanged on a refusal.
+/// Appends the plain spelling of a user packet whose message is lent. The message's own
+/// time to reach its queue is not spelled: the packet has what is left of it. `out` is
+/// unchanged on a refusal.
 pub fn put_message(
     message: &Message,
     carriage: &Carriage,

@@ -4,7 +4,8 @@ use Rattle.std.specs.Option.{option_map}
 use Rattle.mqb_base.specs.Same.{same_bytes}
 use Rattle.mqb_svg.specs.declared.sides.Side.{Side}
 use Rattle.mqb_picture.specs.declared.asked.Asked.{Asked}
-use Rattle.mqb_picture.specs.declared.asked.Asked.TheVariants.{Connect, Disconnect, Pump, Flow, Packet, At}
+use Rattle.mqb_picture.specs.declared.asked.Asked.TheVariants.{Connect, Disconnect, Pump, Flow}
+use Rattle.mqb_picture.specs.declared.asked.Asked.TheVariants.{Packet, At}
 use Rattle.mqb_picture.specs.Words.{packet_of}
 use Rattle.mqb_picture.specs.Sides.{side_of}
 
@@ -18,7 +19,8 @@ asked_at word side = if same_bytes word (codes "connect") then Connect side
 -- what the first word asks of the second, which is a packet or a manager
 unfoldable pub asked_about : List ℕ → List ℕ → Option Asked
 asked_about word object =
-    if same_bytes word (codes "deliver") || same_bytes word (codes "drop") then option_map Packet (packet_of object)
+    if same_bytes word (codes "deliver") || same_bytes word (codes "drop")
+    then option_map Packet (packet_of object)
     else option_map (asked_at word) (side_of object)
 
 unfoldable pub asked_of : List (List ℕ) → Option Asked

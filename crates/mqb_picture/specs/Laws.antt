@@ -14,5 +14,6 @@ answers_in _ said = 1
 
 -- A line and its reply, which is what was said to what it asks, add an element for each answer.
 abbrev pub OneElementAnAnswer : ℕ → List ℕ → List ℕ → Progress → Progress → Type 0
-OneElementAnAnswer n line reply p q = (what : Asked) (said : List ℕ) → said_to n reply ≡ Ok said → asked_of (words_of line) ≡ Some what
+OneElementAnAnswer n line reply p q = (what : Asked) (said : List ℕ) → said_to n reply ≡ Ok said
+    → asked_of (words_of line) ≡ Some what
     → drawn n line reply p ≡ Ok q → length q.elements ≡ length p.elements + answers_in what said

@@ -1,11 +1,13 @@
 -- What is written.
-use Rattle.std.specs.Prelude.{◌≡◌, ℕ, List, ◌++◌, length, codes, nat_lt, Option, Result, Ok, Err, if◌then◌else◌}
+use Rattle.std.specs.Prelude.{◌≡◌, ℕ, List, ◌++◌, length, codes, nat_lt, Option, Result, Ok}
+use Rattle.std.specs.Prelude.{Err, if◌then◌else◌}
 use Rattle.mqb_fields.specs.Reading.{◌>>=◌}
 use Rattle.mqb_outside.specs.Told.{Took}
 use Rattle.mqb_svg.specs.declared.elements.Element.{Element}
 use Rattle.mqb_svg.specs.Svg.{svg_of, MOST_ELEMENTS}
 use Rattle.mqb_picture.specs.declared.faults.Kind.{Kind}
-use Rattle.mqb_picture.specs.declared.faults.Kind.TheVariants.{TooLong, NoTranscript, Line, NoEnd, TooLarge}
+use Rattle.mqb_picture.specs.declared.faults.Kind.TheVariants.{TooLong, NoTranscript, Line}
+use Rattle.mqb_picture.specs.declared.faults.Kind.TheVariants.{NoEnd, TooLarge}
 use Rattle.mqb_picture.specs.Words.{around}
 use Rattle.mqb_picture.specs.Reading.{picture_of}
 use Rattle.mqb_picture.specs.Input.{LONGEST}

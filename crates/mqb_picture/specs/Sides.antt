@@ -5,4 +5,5 @@ use Rattle.mqb_svg.specs.declared.sides.Side.TheVariants.{Alpha, Beta}
 
 -- the manager that a word is
 unfoldable pub side_of : List ℕ → Option Side
-side_of word = if same_bytes word (codes "alpha") then Some Alpha else if same_bytes word (codes "beta") then Some Beta else None
+side_of word = if same_bytes word (codes "alpha") then Some Alpha
+    else if same_bytes word (codes "beta") then Some Beta else None

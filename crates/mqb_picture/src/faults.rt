@@ -12,9 +12,11 @@ pub enum Kind {
     TooLong,
     /// None of its lines is `transcript`.
     NoTranscript,
-    /// This line of the script is of no form that is drawn, or what stands in the place of its reply is none.
+    /// This line of the script is of no form that is drawn, or what stands in the place
+    /// of its reply is none.
     Line { number: usize },
-    /// The transcript ends before the last reply, or goes on behind it with something other than `end`.
+    /// The transcript ends before the last reply, or goes on behind it with
+    /// something other than `end`.
     NoEnd,
     /// The picture has over 4,096 elements or over 1,048,576 bytes.
     TooLarge,

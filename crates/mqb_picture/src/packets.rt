@@ -1,6 +1,8 @@
-ghost use Rattle.std.specs.Prelude.{◌≡◌, ◌+◌, ◌-◌, ◌≤◌, ◌<◌, ◌^◌, [], length, map, slice_set, Ok, IfSome, OnOk, OnErr, IfErr};
+ghost use Rattle.std.specs.Prelude.{◌≡◌, ◌+◌, ◌-◌, ◌≤◌, ◌<◌, ◌^◌, [], length, map, slice_set, Ok};
+ghost use Rattle.std.specs.Prelude.{IfSome, OnOk, OnErr, IfErr};
 ghost use Rattle.mqb_picture.specs.Faults.{IsFaultOf};
-ghost use Rattle.mqb_picture.specs.Fates.{post, posted_one, next_sender, posted, packet_at, any_heard, is_unheard, fate_of, after};
+ghost use Rattle.mqb_picture.specs.Fates.{post, posted_one, next_sender, posted, packet_at};
+ghost use Rattle.mqb_picture.specs.Fates.{any_heard, is_unheard, fate_of, after};
 
 use crate::faults::Fault;
 use crate::words::{around, is_word};
@@ -103,7 +105,8 @@ impl Packets {
         Ok(())
     }
 
-    /// Packets are sent, whose numbers words of a line are. Those of a set-up are heard at once, and the managers send them in turn.
+    /// Packets are sent, whose numbers words of a line are. Those of a set-up are heard at once,
+    /// and the managers send them in turn.
     pub fn post_all(
         &mut self,
         alloc: Global,

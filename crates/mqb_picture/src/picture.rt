@@ -1,10 +1,12 @@
-ghost use Rattle.std.specs.Prelude.{◌≡◌, ◌≤◌, ◌+◌, ◌++◌, length, map, codes, Ok, Err, IfOk, OnOk, IfErr};
+ghost use Rattle.std.specs.Prelude.{◌≡◌, ◌≤◌, ◌+◌, ◌++◌, length, map, codes, Ok, Err, IfOk};
+ghost use Rattle.std.specs.Prelude.{OnOk, IfErr};
 ghost use Rattle.std.specs.Fmt.{decimal};
 ghost use Rattle.mqb_picture.specs.Faults.{Reads, IsFaultOf};
 ghost use Rattle.mqb_picture.specs.Fates.{packet_at};
 ghost use Rattle.mqb_picture.specs.Elements.{add};
 ghost use Rattle.mqb_picture.specs.Reading.{blank};
-ghost use Rattle.mqb_picture.specs.Picture.{note, between, arrived, heard, sent, said_in, heard_next, flowed, flow, answered, said_to, drawn};
+ghost use Rattle.mqb_picture.specs.Picture.{note, between, arrived, heard, sent, said_in};
+ghost use Rattle.mqb_picture.specs.Picture.{heard_next, flowed, flow, answered, said_to, drawn};
 
 use crate::asked::{Asked, asked_of};
 use crate::faults::Fault;
@@ -17,7 +19,8 @@ use mqb_svg::{Element, Side};
 use std::alloc::Global;
 use std::marker::Model;
 
-/// A picture that is being made. Contracts see the packets that were sent and the elements so far. After a refusal it is of no more use.
+/// A picture that is being made. Contracts see the packets that were sent and the elements so far.
+/// After a refusal it is of no more use.
 #[derive(Drop)]
 pub struct Picture {
     alloc: Global,
@@ -43,7 +46,8 @@ fn said_to(alloc: Global, line: usize, reply: &[u8]) -> Result<&[u8], Fault>
     behind(&front, reply).ok_or(Fault::line(line))
 }
 
-/// What a part of a flow's reply says: each but the last ends with the number of the packet that the next one is about.
+/// What a part of a flow's reply says: each but the last ends with the number of the packet that
+/// the next one is about.
 #[tactic(auto, unfolding(crate::specs::Picture::said_in))]
 fn said_in<'t>(
     alloc: Global,

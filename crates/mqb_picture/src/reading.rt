@@ -1,8 +1,10 @@
-ghost use Rattle.std.specs.Prelude.{◌≡◌, ◌==◌, ◌+◌, ◌≤◌, ℕ, List, length, drop, map, codes, Ok, Err, IfOk, OnOk, IfErr};
+ghost use Rattle.std.specs.Prelude.{◌≡◌, ◌==◌, ◌+◌, ◌≤◌, ℕ, List, length, drop, map, codes, Ok};
+ghost use Rattle.std.specs.Prelude.{Err, IfOk, OnOk, IfErr};
 ghost use Rattle.std.specs.List.{position};
 ghost use Rattle.mqb_base.specs.Same.{same_bytes};
 ghost use Rattle.mqb_picture.specs.Faults.{IsFaultOf};
-ghost use Rattle.mqb_picture.specs.Reading.{is_skipped, is_fault, is_given_up, ended, drawn_first, drawn_from, blank, picture_of, TurnsTo, Stops};
+ghost use Rattle.mqb_picture.specs.Reading.{is_skipped, is_fault, is_given_up, ended, drawn_first};
+ghost use Rattle.mqb_picture.specs.Reading.{drawn_from, blank, picture_of, TurnsTo, Stops};
 
 use crate::faults::{Fault, Kind};
 use crate::picture::Picture;
@@ -67,7 +69,8 @@ fn end(alloc: Global, picture: &mut Picture, replies: &[&[u8]]) -> Result<(), Fa
     Ok(())
 }
 
-/// Draws line `number` with its reply, and tells how many of the replies it has: one, or none where it is not answered.
+/// Draws line `number` with its reply, and tells how many of the replies it has: one, or none
+/// where it is not answered.
 fn turn(
     alloc: Global,
     picture: &mut Picture,
@@ -75,7 +78,8 @@ fn turn(
     line: &[u8],
     replies: &[&[u8]],
 ) -> Result<usize, Fault>
-    ensures ok { IfOk result (λ count. TurnsTo number line.now (map (λ reply. reply.now) replies.now)
+    ensures ok { IfOk result
+        (λ count. TurnsTo number line.now (map (λ reply. reply.now) replies.now)
         picture.old (map (λ reply. reply.now) (drop count replies.now)) picture.new) }
     ensures within { IfOk result (λ count. count ≤ length replies.now) }
     ensures err { IfErr result (Stops number line.now (map (λ reply. reply.now) replies.now)

@@ -2,7 +2,8 @@ ghost use Rattle.std.specs.Prelude.{◌≡◌, ◌≤◌, length, IfOk, IfErr};
 ghost use Rattle.mqb_picture.specs.Faults.{IsFaultOf};
 ghost use Rattle.mqb_picture.specs.Input.{LONGEST};
 ghost use Rattle.mqb_picture.specs.Outputs.{LARGEST, svg_made, fault_text};
-ghost use Rattle.mqb_picture.specs.Runs.{exit_of, Tells, TellsKind, Draws, Completes, ReadFaultHasCause, WriteFaultHasCause, IsPlain};
+ghost use Rattle.mqb_picture.specs.Runs.{exit_of, Tells, TellsKind, Draws, Completes};
+ghost use Rattle.mqb_picture.specs.Runs.{ReadFaultHasCause, WriteFaultHasCause, IsPlain};
 ghost use Rattle.mqb_picture.specs.declared.run.Status.TheVariants as status;
 
 use crate::faults::{Fault, Kind};

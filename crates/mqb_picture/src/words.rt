@@ -2,7 +2,8 @@ ghost use Rattle.std.specs.Prelude.{◌≡◌, ◌^◌, min, map, IfOk};
 ghost use Rattle.std.specs.List.{list_all};
 ghost use Rattle.std.specs.Option.{option_copied};
 ghost use Rattle.mqb_base.specs.Same.{same_bytes};
-ghost use Rattle.mqb_picture.specs.Words.{parts_by, is_digit, value_of, packet_of, around, behind, in_front_of};
+ghost use Rattle.mqb_picture.specs.Words.{parts_by, is_digit, value_of, packet_of, around};
+ghost use Rattle.mqb_picture.specs.Words.{behind, in_front_of};
 
 use mqb_base::Memory;
 use std::alloc::{AllocError, Global};

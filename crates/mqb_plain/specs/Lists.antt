@@ -1,6 +1,8 @@
 -- A list of plain messages for one peer, and which of them were sent in this connection.
 use Rattle.std.specs.List.{filter_map}
-use Rattle.std.specs.Prelude.{ℕ, ◌<◌, ◌≤◌, Bool, true, false, is_none, nat_le, max, List, [], ◌∷◌, length, map, find, fold, All, IsNone, MatchOption, Option, Some, None, option_map, unwrap_or, if◌then◌else◌}
+use Rattle.std.specs.Prelude.{ℕ, ◌<◌, ◌≤◌, Bool, true, false, is_none, nat_le, max, List, [], ◌∷◌}
+use Rattle.std.specs.Prelude.{length, map, find, fold, All, IsNone, MatchOption, Option, Some, None}
+use Rattle.std.specs.Prelude.{option_map, unwrap_or, if◌then◌else◌}
 use Rattle.mqb_base.specs.declared.message.Message.{Message}
 use Rattle.mqb_plain.specs.declared.outgoing.Outgoing.{Outgoing}
 
@@ -21,7 +23,8 @@ first_unsent items = option_map (λ o. o.message) (find (λ o. is_none o.mark) i
 -- the list once its first unsent message was sent with a number
 abbrev pub marked_next : ℕ → List Outgoing → List Outgoing
 marked_next number [] = []
-marked_next number (o ∷ items) = if is_none o.mark then record o { mark = Some number } ∷ items else o ∷ marked_next number items
+marked_next number (o ∷ items) =
+    if is_none o.mark then record o { mark = Some number } ∷ items else o ∷ marked_next number items
 
 -- the greatest number of a sent message, or 0
 abbrev pub greatest_mark : List Outgoing → ℕ
@@ -42,7 +45,8 @@ is_sent_by number o = at_most number o.mark
 -- The numbers of sent messages rise from above low, and nothing behind an unsent message was sent.
 abbrev pub RisesFrom : ℕ → List Outgoing → Type 0
 RisesFrom low [] = Unit {0}
-RisesFrom low (o ∷ items) = MatchOption o.mark (All (λ p. IsNone p.mark) items) (λ mark. (low < mark) × RisesFrom mark items)
+RisesFrom low (o ∷ items) = MatchOption o.mark (All (λ p. IsNone p.mark) items)
+    (λ mark. (low < mark) × RisesFrom mark items)
 
 -- The sent messages come first, and their numbers rise from 1 on.
 abbrev pub InOrder : List Outgoing → Type 0
@@ -60,7 +64,8 @@ Rising low [] = Unit {0}
 Rising low (k ∷ marks) = (low < k) × Rising k marks
 
 -- There is room for as many numbers as messages.
-pub record IsList (messages : List Message) (marks : List ℕ) (message_room mark_room : ℕ) : Type 0 where
+pub record IsList (messages : List Message) (marks : List ℕ)
+    (message_room mark_room : ℕ) : Type 0 where
   pub first_sent : length marks ≤ length messages
   pub rising : Rising 0 marks
   pub within : length messages ≤ message_room

@@ -1,5 +1,6 @@
 -- The plain messages that wait for one peer.
-use Rattle.std.specs.Prelude.{ℕ, ◌+◌, ◌-◌, ◌<◌, max, List, [], ◌∷◌, ◌++◌, is_some, length, insert, remove, IsSome, MatchOption, Option, Some, None, if◌then◌else◌}
+use Rattle.std.specs.Prelude.{ℕ, ◌+◌, ◌-◌, ◌<◌, max, List, [], ◌∷◌, ◌++◌, is_some, length, insert}
+use Rattle.std.specs.Prelude.{remove, IsSome, MatchOption, Option, Some, None, if◌then◌else◌}
 use Rattle.mqb_base.specs.declared.heads.SessionHead.{SessionHead}
 use Rattle.mqb_base.specs.declared.message.Lane.{Lane}
 use Rattle.mqb_base.specs.declared.message.Lane.TheVariants as lane
@@ -84,7 +85,8 @@ sent head p = if is_some (first_unsent p.recoverable)
     then record p { recoverable = marked_next head.recoverable p.recoverable }
     else record p { express = marked_next head.user p.express }
 
--- There is a next message, and the header's number for its list is above the number of each that was sent.
+-- There is a next message, and the header's number for its list is above the number
+-- of each that was sent.
 abbrev pub MaySend : PlainLists → SessionHead → Type 0
 MaySend p head = MatchOption (first_unsent p.recoverable)
     (IsSome (first_unsent p.express) × (greatest_mark p.express < head.user))

@@ -1,12 +1,16 @@
-ghost use Rattle.std.specs.Prelude.{◌≡◌, ◌+◌, ◌<◌, ◌≤◌, [], ◌∷◌, ◌++◌, length, max, insert, remove, slice_get, filter, count_by, nat_le, not, take, take_while, Some, IsSome, IsOk, OnOk, OnErr, option_map};
-ghost use Rattle.mqb_plain.specs.Lists.{InOrder, first_unsent, greatest_mark, is_sent_by, marked_next, marks_of, messages_of, unmarked, unsent};
+ghost use Rattle.std.specs.Prelude.{◌≡◌, ◌+◌, ◌<◌, ◌≤◌, [], ◌∷◌, ◌++◌, length, max, insert, remove};
+ghost use Rattle.std.specs.Prelude.{slice_get, filter, count_by, nat_le, not, take, take_while};
+ghost use Rattle.std.specs.Prelude.{Some, IsSome, IsOk, OnOk, OnErr, option_map};
+ghost use Rattle.mqb_plain.specs.Lists.{InOrder, first_unsent, greatest_mark, is_sent_by};
+ghost use Rattle.mqb_plain.specs.Lists.{marked_next, marks_of, messages_of, unmarked, unsent};
 
 use mqb_base::{Memory, Message, Roomed};
 use mqb_deque::RoomedDeque;
 use std::alloc::Global;
 use std::marker::Model;
 
-/// A plain message for a peer, and the number of its list that its session header had, where it was sent in this connection.
+/// A plain message for a peer, and the number of its list that its session header had, where it was
+/// sent in this connection.
 #[derive(Debug, PartialEq, Eq, Drop)]
 pub struct Outgoing {
     pub message: Message,
@@ -28,7 +32,8 @@ impl Model for OutList {
 
     ghost Value = { Room Outgoing };
 
-    ghost view = { λ l. record { items = marked l.messages.items l.marks.items; room = l.messages.room } };
+    ghost view = { λ l.
+        record { items = marked l.messages.items l.marks.items; room = l.messages.room } };
 
     ghost invariant = { λ l. IsList l.messages.items l.marks.items l.messages.room l.marks.room };
 }

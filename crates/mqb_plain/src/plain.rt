@@ -1,19 +1,25 @@
-ghost use Rattle.std.specs.Prelude.{◌≡◌, ◌==◌, ◌+◌, ◌<◌, ◌≤◌, length, insert, slice_get, filter, count_by, not, take, Some, IsOk, IsErr, OnOk, OnErr, IfErr, option_map};
+ghost use Rattle.std.specs.Prelude.{◌≡◌, ◌==◌, ◌+◌, ◌<◌, ◌≤◌, length, insert, slice_get, filter};
+ghost use Rattle.std.specs.Prelude.{count_by, not, take, Some, IsOk, IsErr, OnOk, OnErr};
+ghost use Rattle.std.specs.Prelude.{IfErr, option_map};
 ghost use Rattle.mqb_base.specs.declared.message.Lane.TheVariants.{Durable, Express};
 ghost use Rattle.mqb_base.specs.declared.roomed.TheConstants.{MAX_MEMBERS};
 ghost use Rattle.mqb_plain.specs.Lists.{InOrder, is_sent_by, marks_of, messages_of, unmarked};
-ghost use Rattle.mqb_plain.specs.Plain.{MaySend, count, inserted, next_unsent, no_plain, no_room, outgoing_in, pushed, room_for, room_to_push, sent, spare, without};
+ghost use Rattle.mqb_plain.specs.Plain.{MaySend, count, inserted, next_unsent, no_plain, no_room};
+ghost use Rattle.mqb_plain.specs.Plain.{outgoing_in, pushed, room_for, room_to_push, sent};
+ghost use Rattle.mqb_plain.specs.Plain.{spare, without};
 
 use crate::outgoing::{OutList, Outgoing};
 use mqb_base::{Lane, MAX_MEMBERS, Memory, Message, SessionHead};
 use std::alloc::Global;
 use std::marker::Model;
 
-/// The plain messages that wait for one peer, recoverable and express ones, at most `MAX_MEMBERS` together. A message that was sent in this
-/// connection bears the number of its list that its session header had. A recoverable one is released when the peer tells that it has stored so
+/// The plain messages that wait for one peer, recoverable and express ones, at most `MAX_MEMBERS`
+/// together. A message that was sent in this connection bears the number of its list that its
+/// session header had. A recoverable one is released when the peer tells that it has stored so
 /// many, an express one is dropped when the peer tells that it has got so many.
 ///
-/// Contracts see both lists as messages with their numbers, and beside them how many each can have without memory.
+/// Contracts see both lists as messages with their numbers, and beside them how many each can
+/// have without memory.
 #[derive(Debug, Drop)]
 pub struct PlainOut {
     recoverable: OutList,
@@ -77,7 +83,8 @@ impl PlainOut {
         self.express.as_slice()
     }
 
-    /// The numbers of the messages of a lane that were sent in this connection. They are the first ones.
+    /// The numbers of the messages of a lane that were sent in this connection.
+    /// They are the first ones.
     pub fn marks(&self, lane: Lane) -> &[u16]
         ensures { result.now ≡ marks_of (outgoing_in lane self.now.lists) }
     {
@@ -182,7 +189,8 @@ impl PlainOut {
         }
     }
 
-    /// Marks the message that `unsent` gives with the number that its session header has for its list. That number is above those of the list.
+    /// Marks the message that `unsent` gives with the number that its session header has for its
+    /// list. That number is above those of the list.
     pub fn mark_sent(&mut self, head: &SessionHead)
         requires { MaySend self.old.lists head.now }
         ensures { self.new ≡ record self.old { lists = sent head.now self.old.lists } }
@@ -194,7 +202,8 @@ impl PlainOut {
         }
     }
 
-    /// How many recoverable messages are released where the peer has stored so many in this connection. They are the first of the list.
+    /// How many recoverable messages are released where the peer has stored so many in this
+    /// connection. They are the first of the list.
     pub fn released_by(&self, stored: u16) -> u32
         ensures count { result ≡ count_by (is_sent_by stored) self.now.lists.recoverable }
         ensures first { filter (is_sent_by stored) self.now.lists.recoverable ≡
@@ -203,7 +212,8 @@ impl PlainOut {
         self.recoverable.sent_by(stored) as u32
     }
 
-    /// Drops the express messages that the peer has got, by the count of packets that it got in this connection.
+    /// Drops the express messages that the peer has got, by the count of packets that it
+    /// got in this connection.
     pub fn drop_express(&mut self, ack: u16)
         ensures lists { self.new.lists ≡ record self.old.lists {
           express = filter (λ o. not (is_sent_by ack o)) self.old.lists.express;
@@ -225,7 +235,8 @@ impl PlainOut {
         self.express.unmark();
     }
 
-    /// Takes out the message of a lane at a place, with its mark. The later ones move down, with theirs.
+    /// Takes out the message of a lane at a place, with its mark. The later ones
+    /// move down, with theirs.
     pub fn remove(&mut self, lane: Lane, k: u32) -> Outgoing
         requires { k < length (outgoing_in lane self.old.lists) }
         ensures removed { slice_get (outgoing_in lane self.old.lists) k ≡ Some result }
@@ -238,7 +249,8 @@ impl PlainOut {
         }
     }
 
-    /// Puts a message of a lane before the one at a place, or at the end, with its mark: what `remove` took out goes back.
+    /// Puts a message of a lane before the one at a place, or at the end, with its mark: what
+    /// `remove` took out goes back.
     pub fn insert(&mut self, lane: Lane, k: u32, outgoing: Outgoing)
         requires place { k ≤ length (outgoing_in lane self.old.lists) }
         requires room { 0 < spare lane self.old }

@@ -13,7 +13,8 @@ use Rattle.mqb_plans.specs.Plans.{Plan}
 
 -- a durable message is taken by a record, and an express one beside
 abbrev pub taking : Lane → ℕ → EntryPlace → ℕ → MessageId → Plan
-taking lane.Durable now at k id = record { written = Some (entry.Taken now at id); beside = beside.Nothing }
+taking lane.Durable now at k id =
+    record { written = Some (entry.Taken now at id); beside = beside.Nothing }
 taking lane.Express now at k id = record { written = None; beside = beside.TakesExpress now at k }
 
 -- a place is purged: its durable messages by a record, where it has any, and then the express ones

@@ -18,7 +18,8 @@ pub record Plan : Type 0 where
   pub written : Option Record
   pub beside : Beside
 
--- what a call comes to by a plan: it answers this, what is known of the connection stays, and no packet goes out
+-- what a call comes to by a plan: it answers this, what is known of the connection stays,
+-- and no packet goes out
 abbrev pub outcome_of : {A : Type 0} → Manager → Plan → A → Outcome A
 outcome_of m p answer = record {
   answer = answer;
@@ -42,12 +43,14 @@ abbrev pub Refuses : {V E : Type 0} → State → (Manager → Outcome (Result V
 Refuses s call why = OfManagers s (λ m. call m ≡ answering m (Err why))
 
 -- It refuses a take so; memory is wanting for none that it refuses.
-abbrev pub RefusesTake : {V : Type 0} → State → (Manager → Outcome (Result V TakeFault)) → TakeFault → Type 0
+abbrev pub RefusesTake : {V : Type 0} → State → (Manager → Outcome (Result V TakeFault)) → TakeFault
+    → Type 0
 RefusesTake s call take_fault.Memory = OfManagers s (λ m. IsOk (call m).answer)
 RefusesTake s call why = Refuses s call why
 
 -- It refuses a send so, or memory is wanting.
-abbrev pub RefusesSend : {V : Type 0} → State → (Manager → Outcome (Result V SendFault)) → SendFault → Type 0
+abbrev pub RefusesSend : {V : Type 0} → State → (Manager → Outcome (Result V SendFault)) → SendFault
+    → Type 0
 RefusesSend s call send_fault.Memory = Unit {0}
 RefusesSend s call why = Refuses s call why
 
@@ -57,9 +60,11 @@ RefusesSend s call why = Refuses s call why
 abbrev pub CanWrite : State → Plan → Type 0
 CanWrite s p = IfSome p.written (IsWritable s)
 
--- A valid manager that keeps this and is up is valid after a plan, whether it goes well or the disk fails.
+-- A valid manager that keeps this and is up is valid after a plan, whether it goes
+-- well or the disk fails.
 abbrev pub KeepsValid : State → Plan → Type 0
-KeepsValid s p = (m : Manager) → IsValidManager m → m.state ≡ s → is_down m ≡ false → StaysValid m (outcome_of {A = Unit {0}} m p tt)
+KeepsValid s p = (m : Manager) → IsValidManager m → m.state ≡ s → is_down m ≡ false
+    → StaysValid m (outcome_of {A = Unit {0}} m p tt)
 
 -- the state that a plan leaves
 abbrev pub state_left : State → Plan → State

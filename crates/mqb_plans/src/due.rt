@@ -3,7 +3,8 @@ ghost use Rattle.std.specs.Prelude.{◌≡◌, ◌+◌, ◌*◌, ◌≤◌, sum_
 ghost use Rattle.mqb_base.specs.declared.message.Lane.TheVariants.{Express};
 ghost use Rattle.mqb_base.specs.declared.roomed.TheConstants.{MAX_MEMBERS};
 ghost use Rattle.mqb_model.specs.declared.limits.TheConstants.{MAX_PEERS, MAX_QUEUES, MAX_ROLL};
-ghost use Rattle.mqb_model.specs.rules.Timeouts.{durable_due, expiring_in, lane_due, lapsing_in, sweeping_in};
+ghost use Rattle.mqb_model.specs.rules.Timeouts.{durable_due, expiring_in, lane_due};
+ghost use Rattle.mqb_model.specs.rules.Timeouts.{lapsing_in, sweeping_in};
 ghost use Rattle.mqb_model.specs.state.Valid.{IsValidState};
 
 use mqb_base::Lane;

@@ -1,7 +1,8 @@
-//! What the calls `take`, `purge`, `tick` and `send` of a manager come to, as plans over what it keeps: nothing changes.
+//! What the calls `take`, `purge`, `tick` and `send` of a manager come to, as plans over what it
+//! keeps: nothing changes.
 //!
-//! Each function answers the plan of its call, or why the call is refused: the answer, the entry that is to be written, where there is one, and what is
-//! to be done to express messages beside it.
+//! Each function answers the plan of its call, or why the call is refused: the answer, the entry
+//! that is to be written, where there is one, and what is to be done to express messages beside it.
 #![tactic(auto)]
 
 mod due;

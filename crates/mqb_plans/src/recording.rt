@@ -36,7 +36,8 @@ impl Told {
     }
 }
 
-/// The record of a message that is sent, where it is recoverable: it is spelled where its entry is put. Contracts see the record, or none.
+/// The record of a message that is sent, where it is recoverable: it is spelled where its entry is
+/// put. Contracts see the record, or none.
 #[derive(Debug, Drop)]
 pub struct SentRecord {
     moment: u32,

@@ -94,8 +94,9 @@ fn send(
     Ok(send_message(contents, message, recoverable, now))
 }
 
-/// A message of what its sender chose is to be sent, outside of transactions. It is made once, and spelled where its entry is put. A refusal is the
-/// first reason against it in the order of `SendFault`, or want of memory.
+/// A message of what its sender chose is to be sent, outside of transactions. It is made once, and
+/// spelled where its entry is put. A refusal is the first reason against it in the order of
+/// `SendFault`, or want of memory.
 pub fn plan_send(
     contents: &Contents,
     draft: &Draft,

@@ -84,7 +84,8 @@ fn take(contents: &Contents, place: &Place, now: u32) -> Result<Taking, TakeFaul
     }
 }
 
-/// The first message of a place that is not due, of the greatest priority, is to be taken. It is copied once.
+/// The first message of a place that is not due, of the greatest priority, is to be
+/// taken. It is copied once.
 pub fn plan_take(contents: &Contents, place: &Place, now: u32) -> Result<Taking, TakeFault>
     ensures planned { IfOk result (λ t. ComesTo contents.now.lists
         (λ m. take_message m place.now now) (take_plan t) t.message) }

@@ -26,8 +26,10 @@ pub record HasFront (before after wanted : List (List ℕ)) : Type 0 where
   pub wanted_are : wanted ≡ front ++ rest
   pub added : after ≡ before ++ front
 
--- A call with this result was to add the wanted strings to a medium: all of them were added, or the first ones.
-abbrev pub PostedBy : {T : Type 0} → (before after wanted : List (List ℕ)) → Result T PostFault → Type 0
+-- A call with this result was to add the wanted strings to a medium: all of them were
+-- added, or the first ones.
+abbrev pub PostedBy : {T : Type 0} → (before after wanted : List (List ℕ)) → Result T PostFault
+    → Type 0
 PostedBy before after wanted (Ok done) = (after ≡ before ++ wanted) × IsWithin after
 PostedBy before after wanted (Err NetFull) = IsCutOff before after wanted
 PostedBy before after wanted (Err Memory) = HasFront before after wanted

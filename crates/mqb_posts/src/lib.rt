@@ -1,4 +1,5 @@
-//! Packets on a medium: what a pump added is cut into packets, each of which is one string of the medium, and a string is read as the packet that was sent.
+//! Packets on a medium: what a pump added is cut into packets, each of which is one string of the
+//! medium, and a string is read as the packet that was sent.
 //!
 //! `specs/Posting.antt` says what a medium has when not all fit it.
 #![tactic(auto)]

@@ -13,7 +13,8 @@ rooms_in lists = record { durable = lists.0.room; express = lists.1.room }
 
 -- a queue without messages: its plan, its lists and those of its journal
 abbrev pub seen_empty : QueuePlan → (lists journal : Room Message × Room Message) → Empty
-seen_empty plan lists journal = record { plan = plan; rooms = record { lists = rooms_in lists; journal = rooms_in journal } }
+seen_empty plan lists journal =
+    record { plan = plan; rooms = record { lists = rooms_in lists; journal = rooms_in journal } }
 
 -- Neither has a message, and together they have room for as many as a place can have.
 pub record AreEmpty (lists : Room Message × Room Message) : Type 0 where

@@ -1,5 +1,8 @@
 -- Which message of a place is taken first.
-use Rattle.std.specs.Prelude.{◌≡◌, ℕ, ◌<◌, ◌≤◌, ◌-◌, Bool, true, false, not, nat_lt, nat_le, ◌&&◌, max, List, ◌∷◌, ◌++◌, All, length, filter, fold, map, position, slice_get, Option, Some, None, option_map, option_and_then, if◌then◌else◌}
+use Rattle.std.specs.Prelude.{◌≡◌, ℕ, ◌<◌, ◌≤◌, ◌-◌, Bool, true, false, not, nat_lt, nat_le, ◌&&◌}
+use Rattle.std.specs.Prelude.{max, List, ◌∷◌, ◌++◌, All, length, filter, fold, map, position}
+use Rattle.std.specs.Prelude.{slice_get, Option, Some, None, option_map}
+use Rattle.std.specs.Prelude.{option_and_then, if◌then◌else◌}
 use Rattle.mqb_base.specs.declared.ids.MessageId.{MessageId}
 use Rattle.mqb_base.specs.declared.message.Lane.TheVariants as lane
 use Rattle.mqb_base.specs.declared.message.Message.{Message}
@@ -40,7 +43,8 @@ first_of free held = option_and_then (slice_get held) (first_index free held)
 
 -- the first message of a place: of equal priority durable ones go before express ones
 abbrev pub first_at : Places → EntryPlace → ℕ → Option Message
-first_at s at now = option_and_then (λ l. first_of (is_wanted at now None) (l.durable ++ l.express)) (lists_at s at)
+first_at s at now =
+    option_and_then (λ l. first_of (is_wanted at now None) (l.durable ++ l.express)) (lists_at s at)
 
 -- the first message of a place by name
 abbrev pub first_named : Places → Place → ℕ → Option Message
@@ -56,13 +60,16 @@ position_of l k = if nat_lt k (length l.durable)
 abbrev pub first_position : (Message → Bool) → Lists → Option Position
 first_position free l = option_map (position_of l) (first_index free (l.durable ++ l.express))
 
--- where the durable message of a place stands that an identifier names: of several the one that is first
+-- where the durable message of a place stands that an identifier names: of several
+-- the one that is first
 abbrev pub index_named : Places → EntryPlace → MessageId → ℕ → Option ℕ
-index_named s at id now = option_and_then (λ l. first_index (is_wanted at now (Some id)) l.durable) (lists_at s at)
+index_named s at id now =
+    option_and_then (λ l. first_index (is_wanted at now (Some id)) l.durable) (lists_at s at)
 
--- A message stands between others and is the first of them: it is free, each free one before it has a lesser priority, and each free one
--- behind it no greater priority.
-pub record IsFirst (free : Message → Bool) (before : List Message) (first : Message) (behind : List Message) : Type 0 where
+-- A message stands between others and is the first of them: it is free, each free one before it has
+-- a lesser priority, and each free one behind it no greater priority.
+pub record IsFirst (free : Message → Bool) (before : List Message) (first : Message)
+    (behind : List Message) : Type 0 where
   pub first_is_free : free first ≡ true
   pub before_lower : All (λ m. free m ≡ true → m.priority < first.priority) before
   pub behind_no_higher : All (λ m. free m ≡ true → m.priority ≤ first.priority) behind

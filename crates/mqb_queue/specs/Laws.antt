@@ -1,4 +1,5 @@
-use Rattle.std.specs.Prelude.{◌≡◌, ℕ, Bool, true, false, ◌==◌, List, map, slice_get, Option, Some, IsSome, if◌then◌else◌}
+use Rattle.std.specs.Prelude.{◌≡◌, ℕ, Bool, true, false, ◌==◌, List, map, slice_get, Option, Some}
+use Rattle.std.specs.Prelude.{IsSome, if◌then◌else◌}
 use Rattle.mqb_base.specs.declared.message.Message.{Message}
 use Rattle.mqb_base.specs.declared.queues.EntryPlace.{EntryPlace}
 use Rattle.mqb_base.specs.declared.queues.EntryPlace.TheVariants as entry
@@ -8,11 +9,13 @@ use Rattle.mqb_base.specs.declared.queues.QueuePlan.{QueuePlan}
 use Rattle.mqb_base.specs.Same.{same_ignoring_case}
 use Rattle.mqb_queue.specs.First.{First, first_of}
 use Rattle.mqb_queue.specs.Lists.{Lists}
-use Rattle.mqb_queue.specs.Places.{Places, Queue, NamesDiffer, changed_named, found, lists_at, lists_named, with_lists}
+use Rattle.mqb_queue.specs.Places.{Places, Queue, NamesDiffer, changed_named, found, lists_at}
+use Rattle.mqb_queue.specs.Places.{lists_named, with_lists}
 
 -- There is at most one first message, or none.
 abbrev pub AtMostOneFirst : Type 0
-AtMostOneFirst = (free : Message → Bool) (held : List Message) (a b : Option Message) → First free held a → First free held b → a ≡ b
+AtMostOneFirst = (free : Message → Bool) (held : List Message) (a b : Option Message)
+    → First free held a → First free held b → a ≡ b
 
 -- The oldest free message of the greatest priority is the first one.
 abbrev pub OldestIsFirst : Type 0
@@ -30,7 +33,8 @@ same_entry _ _ = false
 -- A place that is there and is given lists has them, and every other place has what it had.
 abbrev pub OnePlaceChanges : Type 0
 OnePlaceChanges = (s : Places) (at other : EntryPlace) (l : Lists) → IsSome (lists_at s at)
-    → lists_at (with_lists s at l) other ≡ (if same_entry at other then Some l else lists_at s other)
+    → lists_at (with_lists s at l) other
+    ≡ (if same_entry at other then Some l else lists_at s other)
 
 -- two words for one place, the case of names left aside
 abbrev pub same_place : Place → Place → Bool
@@ -44,15 +48,18 @@ same_place _ _ = false
 -- The same by name.
 abbrev pub OneNamedPlaceChanges : Type 0
 OneNamedPlaceChanges = (s : Places) (p q : Place) (l : Lists) → IsSome (lists_named s p)
-    → lists_named (changed_named s p (λ m. l)) q ≡ (if same_place p q then Some l else lists_named s q)
+    → lists_named (changed_named s p (λ m. l)) q
+    ≡ (if same_place p q then Some l else lists_named s q)
 
 abbrev pub plans : List Queue → List QueuePlan
 plans queues = map (λ q. q.plan) queues
 
 -- The plans of the queues stay.
 abbrev pub PlansStay : Type 0
-PlansStay = (s : Places) (at : EntryPlace) (l : Lists) → plans (with_lists s at l).queues ≡ plans s.queues
+PlansStay =
+    (s : Places) (at : EntryPlace) (l : Lists) → plans (with_lists s at l).queues ≡ plans s.queues
 
 -- Where names differ, each queue is found by its name.
 abbrev pub FoundByItsName : Type 0
-FoundByItsName = (queues : List Queue) (k : ℕ) (q : Queue) → NamesDiffer queues → slice_get queues k ≡ Some q → found queues q.plan.name ≡ Some k
+FoundByItsName = (queues : List Queue) (k : ℕ) (q : Queue) → NamesDiffer queues
+    → slice_get queues k ≡ Some q → found queues q.plan.name ≡ Some k

@@ -1,5 +1,6 @@
 -- How many messages have each priority.
-use Rattle.std.specs.Prelude.{◌≡◌, ℕ, ◌+◌, ◌<◌, ◌==◌, List, [], ◌∷◌, length, min, slice_index, if◌then◌else◌}
+use Rattle.std.specs.Prelude.{◌≡◌, ℕ, ◌+◌, ◌<◌, ◌==◌, List, [], ◌∷◌, length, min}
+use Rattle.std.specs.Prelude.{slice_index, if◌then◌else◌}
 use Rattle.mqb_base.specs.declared.message.Message.{Message}
 
 -- a priority from 0 to 6, or 7 for each other one

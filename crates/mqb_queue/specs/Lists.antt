@@ -58,7 +58,10 @@ without kind k l = with_messages kind (remove (messages_in kind l) k) l
 
 -- there is room for so many more of each kind, and for no more than that where there was less
 abbrev pub room_for : (durable express : ℕ) → Lists → ListRooms → ListRooms
-room_for durable express l r = record { durable = max r.durable (length l.durable + durable); express = max r.express (length l.express + express) }
+room_for durable express l r = record {
+  durable = max r.durable (length l.durable + durable);
+  express = max r.express (length l.express + express);
+}
 
 -- and for one more of a lane
 abbrev pub room_to_put : Lane → Lists → ListRooms → ListRooms

@@ -1,6 +1,7 @@
 -- The table that leads from the names of queues to their places in the list.
 use Rattle.std.specs.Char.{to_ascii_lowercase}
-use Rattle.std.specs.Prelude.{◌++◌, ◌+◌, ◌-◌, ◌≡◌, ◌≤◌, All, Bool, List, None, Option, length, map, position, replicate, ℕ}
+use Rattle.std.specs.Prelude.{◌++◌, ◌+◌, ◌-◌, ◌≡◌, ◌≤◌, All, Bool, List, None, Option, length, map}
+use Rattle.std.specs.Prelude.{position, replicate, ℕ}
 use Rattle.indexmap.specs.IndexMap.{IndexMap, get, index_map_len, spare}
 use Rattle.mqb_base.specs.Names.{name_fault}
 use Rattle.mqb_base.specs.Same.{same_bytes}
@@ -24,7 +25,8 @@ abbrev pub LeadsTo : {S : Type 0} → List Queue → IndexMap NameKey ℕ S → 
 LeadsTo queues names = (key : NameKey) → get same_key names key ≡ with_key key queues
 
 -- And it can have as many keys without memory as there can be queues.
-pub record IsNamed {S : Type 0} (queues : List Queue) (most : ℕ) (names : IndexMap NameKey ℕ S) : Type 0 where
+pub record IsNamed {S : Type 0} (queues : List Queue) (most : ℕ)
+    (names : IndexMap NameKey ℕ S) : Type 0 where
   pub valid : All (λ q. name_fault q.plan.name ≡ None) queues
   pub leads : LeadsTo queues names
   pub count : index_map_len names ≡ length queues

@@ -13,9 +13,15 @@ abbrev pub rooms_of : code.Queue → QueueRooms
 rooms_of q = record { lists = q.lists.rooms; journal = q.journal.rooms }
 
 -- all places, and their rooms
-abbrev pub seen : Room code.Queue → (dead dead_xact journal : WithRooms Lists ListRooms) → WithRooms Places PlaceRooms
+abbrev pub seen : Room code.Queue → (dead dead_xact journal : WithRooms Lists ListRooms)
+    → WithRooms Places PlaceRooms
 seen queues dead dead_xact journal = record {
-  lists = record { queues = map queue_of queues.items; dead = dead.lists; dead_xact = dead_xact.lists; journal = journal.lists };
+  lists = record {
+    queues = map queue_of queues.items;
+    dead = dead.lists;
+    dead_xact = dead_xact.lists;
+    journal = journal.lists;
+  };
   rooms = record {
     queues = map rooms_of queues.items;
     more_queues = queues.room;

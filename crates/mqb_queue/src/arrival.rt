@@ -19,8 +19,8 @@ pub fn queue_refusal(plan: &QueuePlan, length: u32, transactional: bool) -> Opti
     None
 }
 
-/// Why an arrival is refused at the queue of this plan and length, or at none. `remaining` is the time in seconds that it has left to reach the
-/// queue.
+/// Why an arrival is refused at the queue of this plan and length, or at none. `remaining` is the
+/// time in seconds that it has left to reach the queue.
 pub fn arrival_refusal(
     plan: Option<&QueuePlan>,
     length: u32,

@@ -26,8 +26,9 @@ fn length_met(recorded: bool, lists: &Lists) -> u32
 }
 
 impl Queues {
-    /// Why an arrival is refused at the queue at this place in the list, from 0, or at none. `recorded` says that the message is not express, and
-    /// `remaining` is the time in seconds that it has left to reach the queue.
+    /// Why an arrival is refused at the queue at this place in the list, from 0, or at none.
+    /// `recorded` says that the message is not express, and `remaining` is the time in seconds that
+    /// it has left to reach the queue.
     pub fn admit(
         &self,
         queue: Option<u32>,

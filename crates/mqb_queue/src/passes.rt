@@ -9,8 +9,8 @@ use mqb_deque::SplitSlice;
 /// The pass of each level when nothing was passed.
 pub(crate) const NO_PASSES: [Pass; LEVELS] = [Pass { index: 0, bound: 0 }; LEVELS];
 
-/// How far the messages of a level have ended: each one of the level before an index is due from a moment on, which is less than the bound. With the
-/// bound 0 none before the index has the level.
+/// How far the messages of a level have ended: each one of the level before an index is due from a
+/// moment on, which is less than the bound. With the bound 0 none before the index has the level.
 #[derive(Clone, Copy, Debug, PartialEq, Eq)]
 pub(crate) struct Pass {
     pub(crate) index: usize,
@@ -122,8 +122,9 @@ fn gone_on(
     }
 }
 
-/// The pass of a level once a message that stood at a place was taken. Where that one was first, each message of a greater priority is due, and each of
-/// the same one that stood before it; and all of these end sooner.
+/// The pass of a level once a message that stood at a place was taken. Where that one was first,
+/// each message of a greater priority is due, and each of the same one that stood before it; and
+/// all of these end sooner.
 fn next_pass(
     pass: Pass,
     count: usize,

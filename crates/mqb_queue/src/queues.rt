@@ -15,8 +15,8 @@ use mqb_base::{EntryPlace, MAX_MEMBERS, Memory, Name, Place, QueuePlan, Roomed};
 use std::alloc::Global;
 use std::marker::Model;
 
-/// The queues of a manager, at most `MAX_MEMBERS`, and the lists that every manager has. Contracts see the lists of all places, and beside them
-/// their rooms.
+/// The queues of a manager, at most `MAX_MEMBERS`, and the lists that every manager has. Contracts
+/// see the lists of all places, and beside them their rooms.
 #[derive(Debug, Drop)]
 pub struct Queues {
     queues: Roomed<Queue>,

@@ -58,8 +58,8 @@ fn index_with(
     }
 }
 
-/// Where the first message stands of those that are wanted, in a list in which none has a priority above `bound`. The messages of each level are
-/// counted, and have ended as its pass says.
+/// Where the first message stands of those that are wanted, in a list in which none has a priority
+/// above `bound`. The messages of each level are counted, and have ended as its pass says.
 pub(crate) fn first_index(
     messages: &SplitSlice<'_, Message>,
     counts: &[usize; LEVELS],

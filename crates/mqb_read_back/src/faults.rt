@@ -5,7 +5,8 @@ use thiserror::Error;
 /// Why bytes are not read back as a state.
 #[derive(Clone, Copy, Debug, PartialEq, Eq, Error)]
 pub enum BackFault {
-    /// They spell no valid state. It is the start of the first field that fails, or the first byte behind a state.
+    /// They spell no valid state. It is the start of the first field that fails, or the first
+    /// byte behind a state.
     #[error("no state's field stands at {at}")]
     Bad { at: usize },
     #[error("out of memory")]

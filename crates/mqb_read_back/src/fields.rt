@@ -1,5 +1,6 @@
 ghost use Rattle.std.specs.Prelude.{◌≡◌, ◌≤◌, IfOk, false, not, true};
-ghost use Rattle.mqb_entries.specs.Fields.{address_at, counted_part, flag_at, guid_at, name_at, packet_at, u32_at};
+ghost use Rattle.mqb_entries.specs.Fields.{address_at, counted_part, flag_at, guid_at, name_at};
+ghost use Rattle.mqb_entries.specs.Fields.{packet_at, u32_at};
 ghost use Rattle.mqb_fields.specs.Reading.{ReadsAs};
 ghost use Rattle.mqb_snapshot.specs.Fields.{destination_at, within_at};
 ghost use Rattle.mqb_read_back.specs.Answers.{Gives, GivesAs};

@@ -6,7 +6,8 @@ ghost use Rattle.mqb_plain.specs.Plain.{pushed};
 ghost use Rattle.mqb_queue.specs.Places.{lists_at};
 ghost use Rattle.mqb_read_back.specs.Answers.{Joins};
 ghost use Rattle.mqb_snapshot.specs.Parts.{each_joined};
-ghost use Rattle.mqb_snapshot.specs.Reading.{held_joined, place_joined, placed_joined, places_joined, plain_joined, waiting_joined};
+ghost use Rattle.mqb_snapshot.specs.Reading.{held_joined, place_joined, placed_joined};
+ghost use Rattle.mqb_snapshot.specs.Reading.{places_joined, plain_joined, waiting_joined};
 
 use crate::faults::BackFault;
 use crate::fields::{flag_field, recoverable_flag, u32_field};

@@ -14,7 +14,8 @@ use mqb_packet::Headers;
 use std::alloc::Global;
 use std::marker::Model;
 
-/// The parts of a state that were read so far, and the numbers of the manager's own messages among them.
+/// The parts of a state that were read so far, and the numbers of the manager's own
+/// messages among them.
 #[derive(Debug)]
 pub(crate) struct ReadParts {
     pub(crate) contents: Contents,
@@ -85,7 +86,8 @@ impl ReadParts {
         }
     }
 
-    /// Whether a message is the manager's, with a number that no other one has. Its number is noted then.
+    /// Whether a message is the manager's, with a number that no other one has. Its
+    /// number is noted then.
     fn note(&mut self, message: &Message) -> Result<bool, Memory>
         ensures own { IfOk result (λ own. own ≡ is_own self.old message.now) }
         ensures noted { IfOk result (λ own. IsTrue own → self.new ≡ record self.old {
@@ -98,7 +100,8 @@ impl ReadParts {
         Ok(self.numbers.insert(message.id.number)?)
     }
 
-    /// A packet in which a store has a message of the manager, with a number that no other one has. Its number is noted.
+    /// A packet in which a store has a message of the manager, with a number that no other one has.
+    /// Its number is noted.
     #[tactic(auto, unfolding(mqb_snapshot::specs::Fields::own_at))]
     pub(crate) fn own_field(
         &mut self,

@@ -5,7 +5,8 @@ ghost use Rattle.mqb_base.specs.Same.{same_guid};
 ghost use Rattle.mqb_model.specs.declared.limits.TheConstants.{MAX_QUEUES};
 ghost use Rattle.mqb_model.specs.state.Resolving.{is_registered};
 ghost use Rattle.mqb_queue.specs.Places.{found};
-ghost use Rattle.mqb_snapshot.specs.Fields.{is_queue_taken, queue_guid_at, queue_name_at, registered_at};
+ghost use Rattle.mqb_snapshot.specs.Fields.{is_queue_taken, queue_guid_at};
+ghost use Rattle.mqb_snapshot.specs.Fields.{queue_name_at, registered_at};
 ghost use Rattle.mqb_read_back.specs.Answers.{Gives, Joins};
 ghost use Rattle.mqb_snapshot.specs.Reading.{plan_at, queue_joined, queues_joined};
 

@@ -4,7 +4,8 @@ ghost use Rattle.mqb_entries.specs.Fields.{u32_at};
 ghost use Rattle.mqb_model.specs.declared.limits.TheConstants.{MAX_NUMBER, MAX_ORDINAL, MAX_ROLL};
 ghost use Rattle.mqb_read_back.specs.Answers.{Gives, IsReadBack, Joins};
 ghost use Rattle.mqb_snapshot.specs.Parts.{tested};
-ghost use Rattle.mqb_snapshot.specs.Reading.{counters_joined, is_next, is_next_ordinal, parts_joined, state_of};
+ghost use Rattle.mqb_snapshot.specs.Reading.{counters_joined, is_next, is_next_ordinal};
+ghost use Rattle.mqb_snapshot.specs.Reading.{parts_joined, state_of};
 
 use crate::faults::BackFault;
 use crate::fields::{u32_field, within_field};
@@ -88,7 +89,8 @@ impl ReadParts {
     }
 }
 
-/// What a store stands for that was spelled as these bytes, all of them, or the first field that stands in no such bytes.
+/// What a store stands for that was spelled as these bytes, all of them, or the first field that
+/// stands in no such bytes.
 #[tactic(auto, unfolding(mqb_snapshot::specs::Reading::state_of))]
 pub fn read_back(alloc: Global, bytes: &[u8]) -> Result<Contents, BackFault>
     ensures { IsReadBack (state_of bytes.now) result }

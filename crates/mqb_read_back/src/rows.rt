@@ -1,5 +1,6 @@
 //! Outgoing rows with the messages that they keep, and incoming rows.
-ghost use Rattle.std.specs.Prelude.{◌≡◌, ◌<◌, IfOk, IsTrue, OnOk, is_none, length, nat_lt, position};
+ghost use Rattle.std.specs.Prelude.{◌≡◌, ◌<◌, IfOk, IsTrue, OnOk, is_none, length};
+ghost use Rattle.std.specs.Prelude.{nat_lt, position};
 ghost use Rattle.mqb_contents.specs.Rows.{begun_row, with_marks};
 ghost use Rattle.mqb_model.specs.declared.limits.TheConstants.{MAX_ROLL};
 ghost use Rattle.mqb_model.specs.state.Rows.{is_row_of};
@@ -8,7 +9,9 @@ ghost use Rattle.mqb_orders.specs.KeptLists.{Rises};
 ghost use Rattle.mqb_snapshot.specs.Fields.{destination_at};
 ghost use Rattle.mqb_read_back.specs.Answers.{Gives, GivesAs, Joins};
 ghost use Rattle.mqb_snapshot.specs.Parts.{list_joined, tested};
-ghost use Rattle.mqb_snapshot.specs.Reading.{head_at, kept_joined, last_number, last_ordinal, may_keep, row_joined, source_at, source_joined, with_kept, with_row};
+ghost use Rattle.mqb_snapshot.specs.Reading.{head_at, kept_joined, last_number, last_ordinal};
+ghost use Rattle.mqb_snapshot.specs.Reading.{may_keep, row_joined, source_at, source_joined};
+ghost use Rattle.mqb_snapshot.specs.Reading.{with_kept, with_row};
 
 use crate::faults::BackFault;
 use crate::fields::{destination_field, guid_field, transactional_flag, u32_field, within_field};

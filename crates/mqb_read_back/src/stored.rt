@@ -3,7 +3,8 @@
 ghost use Rattle.std.specs.Prelude.{◌≡◌, IfOk, IfSome, option_and_then};
 ghost use Rattle.mqb_base.specs.Messages.{IsWellFormed};
 ghost use Rattle.mqb_model.specs.records.Reading.{user_packet_of};
-ghost use Rattle.mqb_snapshot.specs.Fields.{durably, is_carried, is_stored, message_at, message_of, stored_in};
+ghost use Rattle.mqb_snapshot.specs.Fields.{durably, is_carried, is_stored, message_at};
+ghost use Rattle.mqb_snapshot.specs.Fields.{message_of, stored_in};
 ghost use Rattle.mqb_read_back.specs.Answers.{Gives};
 
 use crate::faults::BackFault;

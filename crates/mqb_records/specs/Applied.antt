@@ -8,7 +8,8 @@ use Rattle.mqb_model.specs.state.State.{State}
 
 -- The record is there and fits, and it was done.
 abbrev pub IsApplied : Effect → Option Record → Effect → Type 0
-IsApplied e r after = IsSomeAnd r (λ r. (fits e.state r ≡ true) × (after ≡ joined e (effect_of e.state r)))
+IsApplied e r after =
+    IsSomeAnd r (λ r. (fits e.state r ≡ true) × (after ≡ joined e (effect_of e.state r)))
 
 -- Few messages came in: at most three for each that the record names.
 abbrev pub IsFew : State → Option Record → ℕ → ℕ → Type 0

@@ -1,6 +1,7 @@
 -- The ops of a transaction, as an entry shows them: their packets are bytes.
 use Rattle.std.specs.Option.{option_map_or}
-use Rattle.std.specs.Prelude.{[], ◌&&◌, ◌+◌, ◌∷◌, Bool, List, None, Option, Some, false, filter_map, if◌then◌else◌, map, option_map, true, ℕ}
+use Rattle.std.specs.Prelude.{[], ◌&&◌, ◌+◌, ◌∷◌, Bool, List, None, Option, Some, false, filter_map}
+use Rattle.std.specs.Prelude.{if◌then◌else◌, map, option_map, true, ℕ}
 use Rattle.mqb_base.specs.declared.queues.EntryPlace.TheVariants as place
 use Rattle.mqb_entries.specs.declared.members.OpView.{OpView}
 use Rattle.mqb_entries.specs.declared.members.OpView.TheVariants.{Send, Take}
@@ -19,7 +20,8 @@ use Rattle.mqb_model.specs.state.State.{State}
 
 -- bytes are a user packet that a transaction can send under a number
 abbrev pub bytes_fit : State → ℕ → List ℕ → Bool
-bytes_fit s number bytes = option_map_or (is_sendable s headers.TxAndSession number) (user_packet_of bytes) false
+bytes_fit s number bytes =
+    option_map_or (is_sendable s headers.TxAndSession number) (user_packet_of bytes) false
 
 -- those of all sends are, under numbers from this one on
 abbrev pub packets_fit : State → ℕ → List OpView → Bool

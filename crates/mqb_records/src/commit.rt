@@ -1,4 +1,5 @@
-ghost use Rattle.std.specs.Prelude.{◌*◌, ◌+◌, ◌<◌, ◌≡◌, ◌≤◌, [], Err, IfOk, None, OnOk, Some, false, length, true};
+ghost use Rattle.std.specs.Prelude.{◌*◌, ◌+◌, ◌<◌, ◌≡◌, ◌≤◌, [], Err, IfOk, None, OnOk, Some};
+ghost use Rattle.std.specs.Prelude.{false, length, true};
 ghost use Rattle.std.specs.VecDeque.{deque_capacity, deque_len};
 ghost use Rattle.mqb_base.specs.declared.queues.EntryPlace.TheVariants as place;
 ghost use Rattle.mqb_contents.specs.Rooms.{IsGrown};
@@ -9,7 +10,8 @@ ghost use Rattle.mqb_model.specs.records.Reading.{user_packet_of};
 ghost use Rattle.mqb_model.specs.rules.Sequences.{may_join};
 ghost use Rattle.mqb_model.specs.rules.Takes.{taken};
 ghost use Rattle.mqb_model.specs.state.Resolving.{resolved};
-ghost use Rattle.mqb_records.specs.Ops.{bytes_fit, packet_joins, packets_fit, packets_shown, sends_tried, takes_in, takes_tried};
+ghost use Rattle.mqb_records.specs.Ops.{bytes_fit, packet_joins, packets_fit, packets_shown};
+ghost use Rattle.mqb_records.specs.Ops.{sends_tried, takes_in, takes_tried};
 ghost use Rattle.mqb_records.specs.Ordered.{IsOrdered};
 ghost use Rattle.mqb_arrivals.specs.declared.faults.RecordFault.TheVariants as fault;
 

@@ -55,7 +55,8 @@ fn fits_into_packet(headers: Headers, message: &Message) -> bool
     message_size(message, headers).is_ok()
 }
 
-/// Whether a packet tells of the manager's own message of a number, which can be sent with these headers.
+/// Whether a packet tells of the manager's own message of a number, which can be
+/// sent with these headers.
 pub(crate) fn is_sendable(
     contents: &Contents,
     headers: Headers,

@@ -44,7 +44,8 @@ fn any_is_met(known: &[Identity], peer: &Identity) -> bool
     known.iter().any(|k| is_met(k, peer))
 }
 
-/// Whether a manager is this one or a peer: it has the same GUID, or the same host ignoring ASCII case.
+/// Whether a manager is this one or a peer: it has the same GUID, or the same host
+/// ignoring ASCII case.
 pub fn peer_there(contents: &Contents, peer: &Identity) -> bool
     ensures { result ≡ peer_there contents.now.lists peer.now }
 {

@@ -3,7 +3,8 @@ ghost use Rattle.std.specs.List.{list_any};
 ghost use Rattle.std.specs.Option.{option_map_or};
 ghost use Rattle.mqb_base.specs.Same.{same_guid, same_ignoring_case};
 ghost use Rattle.mqb_contents.specs.Rooms.{IsGrown};
-ghost use Rattle.mqb_model.specs.records.Peer.{is_taken_by, queue_fits, queue_there, with_new_queue};
+ghost use Rattle.mqb_model.specs.records.Peer.{is_taken_by, queue_fits};
+ghost use Rattle.mqb_model.specs.records.Peer.{queue_there, with_new_queue};
 ghost use Rattle.mqb_model.specs.records.Reading.{plan_of};
 ghost use Rattle.mqb_model.specs.rules.Effects.{begun, joined};
 ghost use Rattle.mqb_arrivals.specs.declared.faults.RecordFault.TheVariants as fault;
@@ -62,7 +63,8 @@ fn any_takes(queues: &Queues, plan: &QueuePlan) -> bool
     false
 }
 
-/// Whether a queue is there that has the name or the GUID of a plan, or the name is the order layer's.
+/// Whether a queue is there that has the name or the GUID of a plan, or the name
+/// is the order layer's.
 pub fn queue_there(contents: &Contents, plan: &QueuePlan) -> bool
     ensures { result ≡ queue_there contents.now.lists plan.now }
 {

@@ -25,19 +25,26 @@ AskFor ms lines = map (λ m. m.event) ms ≡ map (λ line. event_of line.1) line
 
 -- The packets of each run of the script, and of its first lines, fit the medium.
 abbrev pub FitMedium : List (ℕ × Event) → Type 0
-FitMedium lines = (first rest : List (ℕ × Event)) (ms : List Move) → lines ≡ first ++ rest → AskFor ms first → IsRun hosts ms
+FitMedium lines = (first rest : List (ℕ × Event)) (ms : List Move) → lines ≡ first ++ rest
+    → AskFor ms first → IsRun hosts ms
     → bytes_in (map plain_spelling (after_run hosts ms).sent) ≤ MAX_MEDIUM
 
--- It ended as done; or memory ran out; or a disk failed while the stores were made, which is the only end by a disk.
+-- It ended as done; or memory ran out; or a disk failed while the stores were made, which is
+-- the only end by a disk.
 abbrev pub IsDoneOr : Result (Unit {0}) ReplayFault → Type 0
 IsDoneOr r = (r ≡ Ok tt) ⊎ (r ≡ Err fault.Memory) ⊎ (r ≡ Err fault.DiskFault)
 
--- A replay of such a script over empty disks, where neither the input nor the output failed, ends so.
-abbrev pub Completes : Option (List ℕ) → Devices → (reads reads_now writes writes_now : ℕ) → Result (Unit {0}) ReplayFault → Type 0
-Completes held b reads reads_now writes writes_now r = (lines : List (ℕ × Event)) → HoldsScript held lines → FitMedium lines → AreEmpty b
+-- A replay of such a script over empty disks, where neither the input nor the
+-- output failed, ends so.
+abbrev pub Completes : Option (List ℕ) → Devices → (reads reads_now writes writes_now : ℕ)
+    → Result (Unit {0}) ReplayFault → Type 0
+Completes held b reads reads_now writes writes_now r =
+    (lines : List (ℕ × Event)) → HoldsScript held lines → FitMedium lines → AreEmpty b
     → (Rose reads reads_now → ⊥) → (Rose writes writes_now → ⊥) → IsDoneOr r
 
 -- So does a trial where the output did not fail.
-abbrev pub CompletesTrial : ℕ → Devices → (writes writes_now : ℕ) → Result (Unit {0}) ReplayFault → Type 0
-CompletesTrial n b writes writes_now r = (lines : List (ℕ × Event)) → script_of (generated n) ≡ Ok lines → FitMedium lines → AreEmpty b
+abbrev pub CompletesTrial : ℕ → Devices → (writes writes_now : ℕ) → Result (Unit {0}) ReplayFault
+    → Type 0
+CompletesTrial n b writes writes_now r =
+    (lines : List (ℕ × Event)) → script_of (generated n) ≡ Ok lines → FitMedium lines → AreEmpty b
     → (Rose writes writes_now → ⊥) → IsDoneOr r

@@ -1,5 +1,6 @@
 -- What a run makes of the disk of a manager.
-use Rattle.std.specs.Prelude.{[], ◌+◌, ◌∷◌, ◌≡◌, ◌≤◌, ◌⊎◌, Bool, List, count_by, false, length, max, min, true, ℕ}
+use Rattle.std.specs.Prelude.{[], ◌+◌, ◌∷◌, ◌≡◌, ◌≤◌, ◌⊎◌, Bool, List, count_by, false, length, max}
+use Rattle.std.specs.Prelude.{min, true, ℕ}
 use Rattle.mqb_outside.specs.Disk.{Switch, View}
 use Rattle.mqb_outside.specs.Images.{Each}
 use Rattle.mqb_base.specs.declared.ids.Guid.{Guid}
@@ -23,7 +24,9 @@ use Rattle.mqb_world.specs.Disks.{Arms, Restarts, Switching, failures_told, swit
 -- the replies of a run that say so
 abbrev pub failures : Which → Course → List Played → ℕ
 failures which c [] = 0
-failures which c (p ∷ ps) = length (failures_told (moved_on c (move_of p)).network.notes which p.event p.reply) + failures which (moved_on c (move_of p)) ps
+failures which c (p ∷ ps) =
+    length (failures_told (moved_on c (move_of p)).network.notes which p.event p.reply)
+    + failures which (moved_on c (move_of p)) ps
 
 -- a count of faults rose by n at least, or stands at its end; it never falls
 abbrev pub RoseBy : ℕ → ℕ → ℕ → Type 0
@@ -55,7 +58,8 @@ pub record IsSwitchedBy (which : Which) (lines : List (ℕ × Event)) (s t : Swi
   pub arms : WentUpBy (arms which lines) s.arms t.arms
   pub restarts : WentUpBy (restarts which lines) s.restarts t.restarts
 
--- What stands on it: each image opens to what the store keeps of the manager's state; or, where a record is in doubt, to what it would keep with that.
+-- What stands on it: each image opens to what the store keeps of the manager's state; or, where a
+-- record is in doubt, to what it would keep with that.
 pub record StandsOn (m : Manager) (d : View) : Type 0 where
   pub journal : JournalState
   pub state : State
@@ -71,6 +75,7 @@ pub record OpensBehind (m : Manager) (image : List ℕ) : Type 0 where
   pub count : ℕ
   pub opens : OpensTo guid count (durable state) image
 
--- What stands on a disk where an event broke off: nothing of what the manager kept is lost, and records may stand behind that.
+-- What stands on a disk where an event broke off: nothing of what the manager kept is lost, and
+-- records may stand behind that.
 abbrev pub StandsBehind : Manager → View → Type 0
 StandsBehind m d = Each d.leaves (OpensBehind m)

@@ -34,7 +34,8 @@ WriteCause before after _ = after ≡ before
 
 -- A replay ends as its output failed where it had ended so, or fails now.
 abbrev pub TellCause : ℕ → ℕ → (end r : Result (Unit {0}) ReplayFault) → Type 0
-TellCause before after end r = r ≡ Err fault.WriteFault → ((end ≡ Err fault.WriteFault) × (after ≡ before)) ⊎ Rose before after
+TellCause before after end r =
+    r ≡ Err fault.WriteFault → ((end ≡ Err fault.WriteFault) × (after ≡ before)) ⊎ Rose before after
 
 -- How the program ends then.
 

@@ -1,6 +1,7 @@
 -- What becomes of a script that is made and replayed for its ledger.
 use Rattle.std.specs.Fmt.{decimal}
-use Rattle.std.specs.Prelude.{◌++◌, ◌≡◌, ◌⊎◌, Bool, Err, List, Ok, Option, Result, codes, count_by, false, length, true, ℕ}
+use Rattle.std.specs.Prelude.{◌++◌, ◌≡◌, ◌⊎◌, Bool, Err, List, Ok, Option, Result, codes, count_by}
+use Rattle.std.specs.Prelude.{false, length, true, ℕ}
 use Rattle.mqb_base.specs.declared.ledger.Line.{Line}
 use Rattle.mqb_base.specs.declared.ledger.Line.TheVariants as line
 use Rattle.mqb_outside.specs.Told.{Took}
@@ -35,9 +36,11 @@ word_of Expired = codes " expired "
 unfoldable pub counted_text : Tally → List Line → List ℕ
 counted_text tally ledger = word_of tally ++ decimal (count_by (is_counted tally) ledger)
 
--- How many lines a script has, none of which is skipped, and of how many messages a ledger says that they were committed, put, refused and expired.
+-- How many lines a script has, none of which is skipped, and of how many messages a ledger says
+-- that they were committed, put, refused and expired.
 unfoldable pub trial_text : ℕ → List Line → List ℕ
-trial_text lines ledger = codes "lines " ++ decimal lines ++ counted_text Committed ledger ++ counted_text Put ledger ++ counted_text Refused ledger ++ counted_text Expired ledger
+trial_text lines ledger = codes "lines " ++ decimal lines ++ counted_text Committed ledger
+    ++ counted_text Put ledger ++ counted_text Refused ledger ++ counted_text Expired ledger
     ++ codes "\n"
 
 -- what is written of a run of these lines
@@ -46,8 +49,10 @@ tried_text lines b a played = trial_text (length lines) (course_of played.run).n
 
 -- What becomes of the lines of a script that is tried over two new managers.
 abbrev pub TriesLines : List (ℕ × Event) → Play
-TriesLines lines b a before after (Ok done) = (played : IsPlayed lines b a) × Took before after (tried_text lines b a played)
-TriesLines lines b a before after (Err fault.WriteFault) = (played : IsPlayed lines b a) × TookFront before after (tried_text lines b a played)
+TriesLines lines b a before after (Ok done) =
+    (played : IsPlayed lines b a) × Took before after (tried_text lines b a played)
+TriesLines lines b a before after (Err fault.WriteFault) =
+    (played : IsPlayed lines b a) × TookFront before after (tried_text lines b a played)
 TriesLines lines b a before after (Err fault.NetFull) = IsFull lines b a × (after ≡ before)
 TriesLines lines b a before after (Err fault.Memory) = IsShort lines b a × (after ≡ before)
 TriesLines lines b a before after (Err _) = ⊥
@@ -57,13 +62,16 @@ abbrev pub EndsTry : ℕ → Play
 EndsTry n b a before after r = (lines : List (ℕ × Event)) × (script_of (generated n) ≡ Ok lines)
     × Begins (TriesLines lines) b a before after r
 
--- How a trial of n orders ends before the line of a fault is written. Where memory runs out while its script is made, nothing was done.
+-- How a trial of n orders ends before the line of a fault is written. Where memory runs out while
+-- its script is made, nothing was done.
 abbrev pub EndsTrial : ℕ → Play
-EndsTrial n b a before after (Err fault.Memory) = IsUntouched b a before after ⊎ EndsTry n b a before after (Err fault.Memory)
+EndsTrial n b a before after (Err fault.Memory) =
+    IsUntouched b a before after ⊎ EndsTry n b a before after (Err fault.Memory)
 EndsTrial n b a before after r = EndsTry n b a before after r
 
 -- A trial of n orders.
-pub record Tries (n : ℕ) (b a : Devices) (before after : Option (List ℕ)) (r : Result (Unit {0}) ReplayFault) : Type 0 where
+pub record Tries (n : ℕ) (b a : Devices) (before after : Option (List ℕ))
+    (r : Result (Unit {0}) ReplayFault) : Type 0 where
   -- what was taken before the line of a fault
   pub taken : Option (List ℕ)
   pub end : Result (Unit {0}) ReplayFault

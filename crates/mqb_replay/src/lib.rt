@@ -1,7 +1,8 @@
 //! The replay of a script over two managers on disks: what is read, played and written.
 //!
-//! Of the definitions, `Replays` has what becomes of the input, `Trials` of a script that is made for its ledger, `Plays` of the lines of a script and of
-//! the devices, and `Completeness` says when a script is played whole.
+//! Of the definitions, `Replays` has what becomes of the input, `Trials` of a script that is made
+//! for its ledger, `Plays` of the lines of a script and of the devices, and `Completeness` says
+//! when a script is played whole.
 #![tactic(auto)]
 
 mod fault_lines;

@@ -85,7 +85,8 @@ fn write_end<K: Sink>(alloc: Global, world: &World, out: &mut K) -> Result<(), R
     Ok(())
 }
 
-/// Plays a script in a world in which nothing happened yet: a line for each event, and then what is held at the end.
+/// Plays a script in a world in which nothing happened yet: a line for each event, and then
+/// what is held at the end.
 fn play_in<K: Sink, P: Power, M: Medium>(
     alloc: Global,
     world: &mut World,

@@ -34,7 +34,8 @@ fn read_and_play<S: Source, K: Sink, P: Power, M: Medium>(
     play(alloc, script.events(), out, first, second, medium)
 }
 
-/// Replays the script from the input over two managers on these disks, and writes the transcript. The medium is empty.
+/// Replays the script from the input over two managers on these disks, and writes the transcript.
+/// The medium is empty.
 pub fn replay<S: Source, K: Sink, P: Power, M: Medium>(
     alloc: Global,
     input: &mut S,

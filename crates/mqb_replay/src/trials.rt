@@ -12,7 +12,8 @@ ghost use Rattle.mqb_replay.specs.Devices.{devices};
 ghost use Rattle.mqb_replay.specs.Faults.{WriteCause};
 ghost use Rattle.mqb_replay.specs.Plays.{Wrote};
 ghost use Rattle.mqb_replay.specs.Replays.{Begins};
-ghost use Rattle.mqb_replay.specs.Trials.{EndsTrial, Tries, TriesLines, counted_text, is_counted, trial_text, word_of};
+ghost use Rattle.mqb_replay.specs.Trials.{EndsTrial, Tries, TriesLines, counted_text, is_counted};
+ghost use Rattle.mqb_replay.specs.Trials.{trial_text, word_of};
 
 use crate::fault_lines::tell;
 use crate::faults::ReplayFault;
@@ -197,7 +198,8 @@ fn make_and_try<K: Sink, P: Power, M: Medium>(
     try_lines(alloc, script.events(), out, first, second, medium)
 }
 
-/// Replays the script of `n` orders over two managers on these disks, and writes how often its ledger says what. The medium is empty.
+/// Replays the script of `n` orders over two managers on these disks, and writes how often its
+/// ledger says what. The medium is empty.
 pub fn trial<K: Sink, P: Power, M: Medium>(
     alloc: Global,
     n: u32,

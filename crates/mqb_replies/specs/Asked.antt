@@ -33,8 +33,10 @@ told_as o told = record {
 abbrev pub faulting : Outcome Answer → Outcome (Result Answer AnswerFault)
 faulting o = told_as o (faulted o.answer)
 
--- A request was made that comes to this, from before it to behind it. `kept` says that the disk is as it was.
-pub record IsAsked (d e : View) (kept : Type 0) (m n : ManagerState) (o : Outcome Answer) (a : Answer) : Type 0 where
+-- A request was made that comes to this, from before it to behind it. `kept` says that
+-- the disk is as it was.
+pub record IsAsked (d e : View) (kept : Type 0) (m n : ManagerState) (o : Outcome Answer)
+    (a : Answer) : Type 0 where
   pub call : IsCall fault.Memory fault.DiskFault d e m n (faulting o) (faulted a)
   -- where no record is written the disk is not called, and a record is four calls of it
   pub untouched : o.entry ≡ None → kept
@@ -43,8 +45,10 @@ pub record IsAsked (d e : View) (kept : Type 0) (m n : ManagerState) (o : Outcom
 
 -- No definition answers a fault of the machine: there is a reply to what each request comes to.
 abbrev pub RequestsAreReplied : Type 0
-RequestsAreReplied = (m : Manager) (request : Request) (lines : List Line) → IsOk (reply_of (requested m request).answer lines)
+RequestsAreReplied = (m : Manager) (request : Request) (lines : List Line)
+    → IsOk (reply_of (requested m request).answer lines)
 
 -- Nor does the one of a checkpoint.
 abbrev pub CheckpointsAreReplied : Type 0
-CheckpointsAreReplied = (m : Manager) (far : Bool) → IsOk (checkpoint_reply (checkpoint m far).answer)
+CheckpointsAreReplied =
+    (m : Manager) (far : Bool) → IsOk (checkpoint_reply (checkpoint m far).answer)

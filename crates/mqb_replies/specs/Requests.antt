@@ -5,7 +5,8 @@ use Rattle.mqb_model.specs.calls.Call.{Answer, Request}
 use Rattle.mqb_model.specs.calls.Call as call
 use Rattle.mqb_model.specs.records.Applying.{is_setting}
 use Rattle.mqb_model.specs.records.Record.{Roll}
-use Rattle.mqb_replies.specs.Replies.{commit_fault_reply, create_fault_reply, purge_fault_reply, send_fault_reply, store_fault_reply, take_fault_reply}
+use Rattle.mqb_replies.specs.Replies.{commit_fault_reply, create_fault_reply, purge_fault_reply}
+use Rattle.mqb_replies.specs.Replies.{send_fault_reply, store_fault_reply, take_fault_reply}
 use Rattle.mqb_replies.specs.declared.faults.AnswerFault.{AnswerFault}
 use Rattle.mqb_replies.specs.declared.faults.AnswerFault.TheVariants.{Memory}
 use Rattle.mqb_replies.specs.declared.requests.Answer as code_answer
@@ -50,9 +51,10 @@ is_done (call.Purged given) = is_ok given
 is_done (call.Ticked given) = is_ok given
 is_done _ = false
 
--- What is replied to what a request is answered, or why nothing is. The lines are those of the request's record. Of a queue that was made its number is
--- not told, of a transaction what became of each op, of a message that was taken all but its identifier, and of a tick the durable messages. A call that
--- has to do with packets has a reply of its own.
+-- What is replied to what a request is answered, or why nothing is. The lines are those of the
+-- request's record. Of a queue that was made its number is not told, of a transaction what became
+-- of each op, of a message that was taken all but its identifier, and of a tick the durable
+-- messages. A call that has to do with packets has a reply of its own.
 abbrev pub reply_of : Answer → List Line → Result Reply AnswerFault
 reply_of (call.Created (Ok number)) lines = Ok reply.Done
 reply_of (call.Created (Err fault)) lines = create_fault_reply fault

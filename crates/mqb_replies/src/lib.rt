@@ -1,7 +1,8 @@
-//! A request of a manager: it is made with the manager's disk, and replied to as a script and a command line have it.
+//! A request of a manager: it is made with the manager's disk, and replied to as a script and a
+//! command line have it.
 //!
-//! Of the definitions, `Requests` has what is asked for, answered and replied, `Replies` the reply to each refusal, and `Asked` what a request is to a
-//! manager and its disk.
+//! Of the definitions, `Requests` has what is asked for, answered and replied, `Replies` the reply
+//! to each refusal, and `Asked` what a request is to a manager and its disk.
 #![tactic(auto)]
 
 mod faults;

@@ -1,6 +1,8 @@
 //! Each refusal has its reply.
 ghost use Rattle.std.specs.Prelude.{◌≡◌};
-ghost use Rattle.mqb_replies.specs.Replies.{checkpoint_reply, commit_fault_reply, create_fault_reply, op_reply, purge_fault_reply, send_fault_reply, store_fault_reply, take_fault_reply};
+ghost use Rattle.mqb_replies.specs.Replies.{checkpoint_reply, commit_fault_reply};
+ghost use Rattle.mqb_replies.specs.Replies.{create_fault_reply, op_reply, purge_fault_reply};
+ghost use Rattle.mqb_replies.specs.Replies.{send_fault_reply, store_fault_reply, take_fault_reply};
 
 use crate::faults::AnswerFault;
 use mqb_manager::CheckpointFault;

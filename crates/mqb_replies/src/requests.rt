@@ -3,7 +3,8 @@ ghost use Rattle.std.specs.Prelude.{◌≡◌};
 ghost use Rattle.mqb_manager.specs.States.{IsOnDisk, IsUp, manager_of};
 ghost use Rattle.mqb_model.specs.calls.Call.{requested};
 ghost use Rattle.mqb_replies.specs.Asked.{IsAsked};
-ghost use Rattle.mqb_replies.specs.Requests.{IsFormed, is_done, reply_of, seen_answer, seen_request};
+ghost use Rattle.mqb_replies.specs.Requests.{IsFormed, is_done, reply_of};
+ghost use Rattle.mqb_replies.specs.Requests.{seen_answer, seen_request};
 
 use crate::faults::AnswerFault;
 use crate::replies::{
@@ -97,8 +98,9 @@ pub fn ask<D: Disk>(manager: &mut Manager, disk: &mut D, request: Request<'_>) -
     }
 }
 
-/// What is replied to an answer. `lines` are those of the request's record, and none where it wrote none. Of a queue that was made its number is not told, of a
-/// transaction what became of each op, of a message that was taken all but its identifier, and of a tick the durable messages.
+/// What is replied to an answer. `lines` are those of the request's record, and none where it wrote
+/// none. Of a queue that was made its number is not told, of a transaction what became of each op,
+/// of a message that was taken all but its identifier, and of a tick the durable messages.
 pub fn reply_of(answer: &Answer, lines: Listed<Line>) -> Result<Reply, AnswerFault>
     ensures { result ≡ reply_of (seen_answer answer.now) lines }
 {

@@ -2,7 +2,8 @@ ghost use Rattle.std.specs.Prelude.{◌≡◌, ◌+◌, ◌≤◌, OnOk};
 ghost use Rattle.mqb_drafts.specs.mqb_contents.Rooms.{IsGrown};
 ghost use Rattle.mqb_fate.specs.Asking.{is_transactional};
 ghost use Rattle.mqb_model.specs.records.Packets.{is_recoverable};
-ghost use Rattle.mqb_model.specs.rules.Arrivals.{is_recorded, refusal_of, storing_refusal, target_refusal};
+ghost use Rattle.mqb_model.specs.rules.Arrivals.{is_recorded, refusal_of};
+ghost use Rattle.mqb_model.specs.rules.Arrivals.{storing_refusal, target_refusal};
 ghost use Rattle.mqb_model.specs.rules.Effects.{without_line};
 ghost use Rattle.mqb_model.specs.rules.Notices.{arrived};
 

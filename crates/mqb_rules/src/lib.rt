@@ -1,8 +1,8 @@
-//! The rules of one manager, tried in a draft: where names lead, why messages are refused, what follows when a message meets a class, and how
-//! messages arrive, are sent, taken and purged.
+//! The rules of one manager, tried in a draft: where names lead, why messages are refused, what
+//! follows when a message meets a class, and how messages arrive, are sent, taken and purged.
 //!
-//! Each function does to a draft what its definition says of the state. What fails for want of memory leaves the draft half changed: `Draft::take_back`
-//! takes all of it back.
+//! Each function does to a draft what its definition says of the state. What fails for want of
+//! memory leaves the draft half changed: `Draft::take_back` takes all of it back.
 #![tactic(auto)]
 
 mod arrivals;

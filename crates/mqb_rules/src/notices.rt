@@ -1,10 +1,12 @@
-ghost use Rattle.std.specs.Prelude.{◌≡◌, ◌+◌, ◌≤◌, false, IfOk, IfSome, IsSome, None, OnOk, Some, length, ◌<◌, option_map, slice_get};
+ghost use Rattle.std.specs.Prelude.{◌≡◌, ◌+◌, ◌≤◌, false, IfOk, IfSome, IsSome, None, OnOk, Some};
+ghost use Rattle.std.specs.Prelude.{length, ◌<◌, option_map, slice_get};
 ghost use Rattle.mqb_base.specs.declared.class.TheConstants.Class.{REACHED_QUEUE};
 ghost use Rattle.mqb_drafts.specs.mqb_contents.Rooms.{IsGrown};
 ghost use Rattle.mqb_fate.specs.Asking.{final_is_due, goes_dead};
 ghost use Rattle.mqb_fate.specs.Notices.{admin_delivery};
 ghost use Rattle.mqb_model.specs.rules.Effects.{without_line};
-ghost use Rattle.mqb_model.specs.rules.Notices.{admin_about, admin_told, buried, dead_place, final_about, final_told, may_go, meets, told};
+ghost use Rattle.mqb_model.specs.rules.Notices.{admin_about, admin_told, buried, dead_place};
+ghost use Rattle.mqb_model.specs.rules.Notices.{final_about, final_told, may_go, meets, told};
 ghost use Rattle.mqb_model.specs.rules.Numbers.{number_left, number_taken};
 ghost use Rattle.mqb_model.specs.state.Places.{placed};
 ghost use Rattle.mqb_model.specs.state.Resolving.{peer_known};
@@ -214,7 +216,8 @@ fn bury(draft: &mut Draft, message: &Message, class: Class) -> Result<(), Memory
     }
 }
 
-/// A message meets a class: an administration message, a final acknowledgement and a dead letter may follow, in this order.
+/// A message meets a class: an administration message, a final acknowledgement and a dead letter
+/// may follow, in this order.
 pub fn meets(draft: &mut Draft, message: &Message, class: Class, now: u32) -> Result<(), Memory>
     ensures ok { OnOk result (draft.new.effect ≡ without_line draft.old.effect
         (meets draft.old.effect.state message.now class now)) }

@@ -1,7 +1,8 @@
 ghost use Rattle.std.specs.Prelude.{◌≡◌, ◌+◌, ◌*◌, ◌<◌, ◌≤◌, IsSomeAnd, OnOk, length};
 ghost use Rattle.mqb_drafts.specs.mqb_contents.Rooms.{IsGrown};
 ghost use Rattle.mqb_model.specs.rules.Effects.{joined, without_line};
-ghost use Rattle.mqb_model.specs.rules.Purges.{after_purge, count_at, message_purged, oldest_purged, purge_line, purged};
+ghost use Rattle.mqb_model.specs.rules.Purges.{after_purge, count_at, message_purged};
+ghost use Rattle.mqb_model.specs.rules.Purges.{oldest_purged, purge_line, purged};
 ghost use Rattle.mqb_queue.specs.Lists.{messages_in};
 ghost use Rattle.mqb_queue.specs.Places.{lists_at};
 
@@ -68,7 +69,8 @@ fn purge_oldest(draft: &mut Draft, lane: Lane, at: EntryPlace, now: u32) -> Resu
     }
 }
 
-/// The messages that a lane of a place has are purged, the oldest first. A notice that is put there meanwhile stays.
+/// The messages that a lane of a place has are purged, the oldest first. A notice that is put
+/// there meanwhile stays.
 pub fn purged(draft: &mut Draft, lane: Lane, at: EntryPlace, now: u32) -> Result<(), Memory>
     ensures ok { OnOk result (draft.new.effect ≡ purged lane at now draft.old.effect) }
     ensures start { draft.new.start ≡ draft.old.start }

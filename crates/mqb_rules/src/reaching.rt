@@ -32,7 +32,8 @@ fn place_and_tell(
     tell_of(draft, notice)
 }
 
-/// A message is put here and meets the class of that: only an administration message can follow, which is made before the message is given away.
+/// A message is put here and meets the class of that: only an administration message can follow,
+/// which is made before the message is given away.
 #[tactic(auto, using(crate::proofs::Following::reached_put))]
 pub(crate) fn reach(
     draft: &mut Draft,

@@ -1,7 +1,10 @@
 ghost use Rattle.std.specs.Prelude.{◌≡◌, ◌<◌, false, length, IfSome, position};
 ghost use Rattle.std.specs.Option.{option_map_or};
 ghost use Rattle.mqb_base.specs.Same.{same_guid};
-ghost use Rattle.mqb_model.specs.state.Resolving.{at_peer, at_queue, guid_at, is_for_order_layer, is_host_of, is_own_host, is_registered, peer_at, queue_named, queue_numbered, queue_registered, resolved};
+ghost use Rattle.mqb_model.specs.state.Resolving.{at_peer, at_queue, guid_at, is_for_order_layer};
+ghost use Rattle.mqb_model.specs.state.Resolving.{is_host_of, is_own_host, is_registered, peer_at};
+ghost use Rattle.mqb_model.specs.state.Resolving.{queue_named, queue_numbered};
+ghost use Rattle.mqb_model.specs.state.Resolving.{queue_registered, resolved};
 
 use mqb_base::{Guid, Host, Identity, Name, QueueName, QueuePlan};
 use mqb_drafts::Contents;

@@ -1,4 +1,5 @@
-ghost use Rattle.std.specs.Prelude.{◌≡◌, ◌+◌, ◌<◌, ◌≤◌, ◌^◌, IfOk, IfSome, IsSomeAnd, IsTrue, OnOk, length, option_and_then, slice_get};
+ghost use Rattle.std.specs.Prelude.{◌≡◌, ◌+◌, ◌<◌, ◌≤◌, ◌^◌, IfOk, IfSome, IsSomeAnd, IsTrue, OnOk};
+ghost use Rattle.std.specs.Prelude.{length, option_and_then, slice_get};
 ghost use Rattle.mqb_base.specs.declared.class.TheConstants.Class.{REACHED_QUEUE};
 ghost use Rattle.mqb_base.specs.declared.ledger.Line.TheVariants as line;
 ghost use Rattle.mqb_drafts.specs.mqb_contents.Rooms.{IsGrown};
@@ -7,7 +8,8 @@ ghost use Rattle.mqb_model.specs.declared.target.Target.TheVariants.{AtPeer};
 ghost use Rattle.mqb_model.specs.records.Commit.{join_fits};
 ghost use Rattle.mqb_model.specs.rules.Effects.{joined, with_line, without_line};
 ghost use Rattle.mqb_model.specs.rules.Notices.{meets};
-ghost use Rattle.mqb_model.specs.rules.Sends.{committed_line, committed_to, delivered, journalled, message_sent, plain_sent};
+ghost use Rattle.mqb_model.specs.rules.Sends.{committed_line, committed_to, delivered, journalled};
+ghost use Rattle.mqb_model.specs.rules.Sends.{message_sent, plain_sent};
 ghost use Rattle.mqb_model.specs.rules.Sequences.{may_join, sequence_for, sequence_in_use};
 ghost use Rattle.mqb_model.specs.state.Places.{placed};
 ghost use Rattle.mqb_model.specs.state.Resolving.{resolved};
@@ -38,7 +40,8 @@ fn journal(draft: &mut Draft, message: &Message) -> Result<(), Memory>
     }
 }
 
-/// A message is put into a queue here and meets the class of that, or joins the plain messages for a peer.
+/// A message is put into a queue here and meets the class of that, or joins the plain
+/// messages for a peer.
 fn deliver(draft: &mut Draft, target: Target, message: Message, now: u32) -> Result<(), Memory>
     ensures ok { OnOk result (draft.new.effect ≡ without_line draft.old.effect
         (delivered draft.old.effect.state target message now)) }

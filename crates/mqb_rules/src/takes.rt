@@ -1,10 +1,12 @@
-ghost use Rattle.std.specs.Prelude.{◌≡◌, ◌+◌, ◌<◌, ◌≤◌, IfOk, IfSome, IsSomeAnd, OnOk, Some, false, length, option_copied};
+ghost use Rattle.std.specs.Prelude.{◌≡◌, ◌+◌, ◌<◌, ◌≤◌, IfOk, IfSome, IsSomeAnd, OnOk, Some, false};
+ghost use Rattle.std.specs.Prelude.{length, option_copied};
 ghost use Rattle.std.specs.Option.{option_map_or};
 ghost use Rattle.mqb_base.specs.declared.class.TheConstants.Class.{RECEIVED};
 ghost use Rattle.mqb_drafts.specs.mqb_contents.Rooms.{IsGrown};
 ghost use Rattle.mqb_model.specs.rules.Effects.{joined, without_line};
 ghost use Rattle.mqb_model.specs.rules.Notices.{meets};
-ghost use Rattle.mqb_model.specs.rules.Takes.{after_take, copied, message_at, message_taken, take_line, taken, taken_at};
+ghost use Rattle.mqb_model.specs.rules.Takes.{after_take, copied, message_at, message_taken};
+ghost use Rattle.mqb_model.specs.rules.Takes.{take_line, taken, taken_at};
 ghost use Rattle.mqb_queue.specs.Lists.{messages_in};
 ghost use Rattle.mqb_queue.specs.Places.{lists_at, numbered};
 
@@ -34,7 +36,8 @@ pub fn copy_at(
 ) -> Result<Option<Message>, Memory>
     ensures copy { IfOk result (λ copy. copy ≡ message_at lane contents.now.lists at index) }
     ensures there { IfOk result (λ copy. IfSome copy (λ m.
-        IsSomeAnd (lists_at contents.now.lists.places at) (λ l. index < length (messages_in lane l)))) }
+        IsSomeAnd (lists_at contents.now.lists.places at)
+        (λ l. index < length (messages_in lane l)))) }
 {
     match message_at(contents, lane, at, index) {
         Some(message) => Ok(Some(message.clone()?)),
@@ -144,7 +147,8 @@ pub fn taken_at(
     }
 }
 
-/// The durable message of a place that an identifier names is taken, where it is there: of several the one that is first.
+/// The durable message of a place that an identifier names is taken, where it is there: of several
+/// the one that is first.
 pub fn taken(draft: &mut Draft, at: EntryPlace, id: MessageId, now: u32) -> Result<(), Memory>
     ensures ok { OnOk result (draft.new.effect ≡ taken at id now draft.old.effect) }
     ensures start { draft.new.start ≡ draft.old.start }

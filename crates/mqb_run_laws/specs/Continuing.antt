@@ -11,7 +11,9 @@ pub record Continues (lines : List (ℕ × Event)) (run : List Played) : Type 0 
   pub more : List Played
   pub whole : IsRunOf lines (run ++ more)
 
--- Behind each run of the first lines there is one of them all, where the others are of the two managers.
+-- Behind each run of the first lines there is one of them all, where the others are
+-- of the two managers.
 abbrev pub RunsContinue : Type 0
-RunsContinue = (first rest : List (ℕ × Event)) (run : List Played) → AllByRecursion (λ line. IsFormed Pair line.1) rest → IsRunOf first run
+RunsContinue = (first rest : List (ℕ × Event)) (run : List Played)
+    → AllByRecursion (λ line. IsFormed Pair line.1) rest → IsRunOf first run
     → Continues (first ++ rest) run

@@ -7,7 +7,8 @@ use Rattle.mqb_runs.specs.Requests.{actor, request_of}
 
 -- one that is no request
 abbrev pub apart : Event → network.Event
-apart (event.Connect initiator acceptor now own other) = network.Connect initiator acceptor now own other
+apart (event.Connect initiator acceptor now own other) =
+    network.Connect initiator acceptor now own other
 apart (event.Disconnect manager) = network.Disconnect manager
 apart (event.Pump manager now) = network.Pump manager now
 apart (event.Deliver packet now) = network.Deliver packet now

@@ -1,5 +1,5 @@
--- What is promised of each point of a run, whatever is lost, repeated and reordered, wherever disks fail, and whichever
--- records in doubt are found kept.
+-- What is promised of each point of a run, whatever is lost, repeated and reordered, wherever disks
+-- fail, and whichever records in doubt are found kept.
 use Rattle.std.specs.Prelude.{◌++◌, ◌≡◌, Bool, List, ℕ}
 use Rattle.mqb_exactly_once.specs.Words.{In}
 use Rattle.mqb_network.specs.Courses.{Course}
@@ -25,17 +25,17 @@ use Rattle.mqb_runs.specs.Hosts.{hosts}
 abbrev pub ArePumped : List Move → Course → Type 0
 ArePumped ms c = (note : Note) → In note c.network.notes → HasPumped ms note.sender note.moment
 
--- Exactly once, in order: each message that is committed is one that was asked for, goes to the end of its queue as it
--- is, or is skipped for a reason.
+-- Exactly once, in order: each message that is committed is one that was asked for, goes to the end
+-- of its queue as it is, or is skipped for a reason.
 pub record DeliversExactlyOnce (ms : List Move) (c : Course) : Type 0 where
-  -- the ledger tells so of each stream: what is decided was committed, in order, each once, and whatever is skipped was
-  -- refused, or expired before
+  -- the ledger tells so of each stream: what is decided was committed, in order, each once, and
+  -- whatever is skipped was refused, or expired before
   pub told : IsExactlyOnceTold (lines_written c.written)
   -- an event asked for each message, and the queue gets that one
   pub asked : AreAskedFor ms c
   pub put : ArePutTruly c
-  -- what expired was due; what is refused has the reason of that moment, and where its time was over, it was over when
-  -- its source pumped it
+  -- what expired was due; what is refused has the reason of that moment, and where its time was
+  -- over, it was over when its source pumped it
   pub expired : AreExpiredDuly c
   pub refused : DecisionsHaveReasons
   pub late : AreRefusedLate c
@@ -43,8 +43,8 @@ pub record DeliversExactlyOnce (ms : List Move) (c : Course) : Type 0 where
   -- what was neither decided nor expired waits at its source, above the acknowledged number
   pub waiting : AreWaitingUntilDecided c
 
--- Sequences of one destination follow one another: nothing of a later one is offered, or decided, before the earlier
--- one is done with.
+-- Sequences of one destination follow one another: nothing of a later one is offered, or decided,
+-- before the earlier one is done with.
 pub record KeepsSequences (c : Course) : Type 0 where
   pub offered : AreBegunInOrder c
   pub decided : AreDecidedAcross c
@@ -54,8 +54,8 @@ pub record KeepsGuarantees (ms : List Move) (c : Course) : Type 0 where
   -- the ledger has the lines of all records
   pub ledger : c.network.ledger ≡ lines_written c.written
   pub exactly_once : DeliversExactlyOnce ms c
-  -- a message which says that a committed one did not arrive is true, and so is one which says that one was not
-  -- received
+  -- a message which says that a committed one did not arrive is true, and so is one which says that
+  -- one was not received
   pub truthful : IsTruthful c
   pub received_truly : IsReceivedTruly c
   -- whatever its sender released was stored where it arrived, or refused there

@@ -7,8 +7,8 @@ use Rattle.mqb_history.specs.Invariants.{HaveOneStreamWorld}
 use Rattle.mqb_history.specs.Leading.{AreStreamsLed}
 use Rattle.mqb_runs.specs.Hosts.{hosts}
 
--- Each stream is a run of the stream world, which is shown; and none is left out: each in the ledger goes from one
--- manager to another.
+-- Each stream is a run of the stream world, which is shown; and none is left out: each in the
+-- ledger goes from one manager to another.
 pub record ShowsStreams (c : Course) : Type 0 where
   pub streams : HaveOneStreamWorld c
   pub led : AreStreamsLed c

@@ -25,7 +25,8 @@ manager_lines which m = if is_down m then host_of which ++ codes " down\n" else 
 
 -- the lines of both, at the end
 abbrev pub end_lines : Network → List ℕ
-end_lines n = codes "end\n" ++ manager_lines Alpha (manager_at n (index_of Alpha)) ++ manager_lines Beta (manager_at n (index_of Beta))
+end_lines n = codes "end\n" ++ manager_lines Alpha (manager_at n (index_of Alpha))
+    ++ manager_lines Beta (manager_at n (index_of Beta))
 
 -- a line for each event, and then what the managers hold
 abbrev pub text_of : List Played → List ℕ

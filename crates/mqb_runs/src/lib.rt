@@ -1,4 +1,5 @@
-//! What a script asks of two managers: its events as those of a network, the runs of a script with their texts, and what is promised of each.
+//! What a script asks of two managers: its events as those of a network, the runs of a script with
+//! their texts, and what is promised of each.
 //!
 //! `Guarantees` of the definitions is the promise, `Texts` what is written of a run.
 #![tactic(auto)]

@@ -1,15 +1,20 @@
 -- The forms of lines.
-use Rattle.std.specs.Prelude.{ℕ, ◌+◌, Bool, ◌==◌, ◌||◌, nat_le, List, [], ◌∷◌, codes, find, Option, ok_or, Result}
+use Rattle.std.specs.Prelude.{ℕ, ◌+◌, Bool, ◌==◌, ◌||◌, nat_le, List, [], ◌∷◌, codes, find, Option}
+use Rattle.std.specs.Prelude.{ok_or, Result}
 use Rattle.mqb_base.specs.Same.{same_bytes}
 use Rattle.mqb_forms.specs.declared.faults.LineKind.{LineKind}
 use Rattle.mqb_forms.specs.declared.faults.LineKind.TheVariants.{Word}
 use Rattle.mqb_script.specs.declared.grammar.Grammar.{Grammar}
 use Rattle.mqb_script.specs.declared.forms.Form.{Form}
 use Rattle.mqb_script.specs.Hosts.{more_words}
-use Rattle.mqb_script.specs.declared.forms.Form.TheVariants.{Queue, Commit, Send, Take, Purge, Tick, Connect, Disconnect, Pump, Deliver, Drop, Flow, Resend, Arm, Restart, Roll, Checkpoint}
+use Rattle.mqb_script.specs.declared.forms.Form.TheVariants.{Queue, Commit, Send, Take, Purge, Tick}
+use Rattle.mqb_script.specs.declared.forms.Form.TheVariants.{Connect, Disconnect, Pump, Deliver}
+use Rattle.mqb_script.specs.declared.forms.Form.TheVariants.{Drop, Flow, Resend, Arm, Restart}
+use Rattle.mqb_script.specs.declared.forms.Form.TheVariants.{Roll, Checkpoint}
 
 abbrev pub forms : List Form
-forms = Queue ∷ Commit ∷ Send ∷ Take ∷ Purge ∷ Tick ∷ Connect ∷ Disconnect ∷ Pump ∷ Deliver ∷ Drop ∷ Flow ∷ Resend ∷ Arm ∷ Restart ∷ Roll ∷ Checkpoint ∷ []
+forms = Queue ∷ Commit ∷ Send ∷ Take ∷ Purge ∷ Tick ∷ Connect ∷ Disconnect ∷ Pump ∷ Deliver ∷ Drop
+    ∷ Flow ∷ Resend ∷ Arm ∷ Restart ∷ Roll ∷ Checkpoint ∷ []
 
 -- the first word of a line of a form
 abbrev pub word_of : Form → List ℕ

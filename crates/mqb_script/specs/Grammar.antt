@@ -3,7 +3,8 @@ use Rattle.std.specs.Prelude.{ℕ, ◌==◌, List, [], ◌∷◌, Result, Ok, Er
 use Rattle.mqb_fields.specs.Reading.{◌>>=◌}
 use Rattle.mqb_forms.specs.declared.faults.LineKind.{LineKind}
 use Rattle.mqb_forms.specs.declared.faults.LineKind.TheVariants.{Value}
-use Rattle.mqb_forms.specs.Values.{moment_of, packet_of, window_of, call_of, roll_of, mode_of, pick_of, place_of}
+use Rattle.mqb_forms.specs.Values.{moment_of, packet_of, window_of, call_of, roll_of, mode_of}
+use Rattle.mqb_forms.specs.Values.{pick_of, place_of}
 use Rattle.mqb_forms.specs.Plans.{plan_of, how_of}
 use Rattle.mqb_forms.specs.Sends.{send_of, ops_of}
 use Rattle.mqb_script.specs.declared.grammar.Grammar.{Grammar}
@@ -11,7 +12,10 @@ use Rattle.mqb_script.specs.declared.grammar.Grammar.TheVariants.{Pair, Ring}
 use Rattle.mqb_script.specs.declared.forms.Form.{Form}
 use Rattle.mqb_script.specs.declared.forms.Form.TheVariants as form
 use Rattle.mqb_script.specs.declared.events.Event.{Event}
-use Rattle.mqb_script.specs.declared.events.Event.TheVariants.{Queue, Commit, Send, Take, Purge, Tick, Connect, Disconnect, Pump, Deliver, Drop, Flow, Resend, Arm, Restart, Roll, Checkpoint}
+use Rattle.mqb_script.specs.declared.events.Event.TheVariants.{Queue, Commit, Send, Take, Purge}
+use Rattle.mqb_script.specs.declared.events.Event.TheVariants.{Tick, Connect, Disconnect, Pump}
+use Rattle.mqb_script.specs.declared.events.Event.TheVariants.{Deliver, Drop, Flow, Resend, Arm}
+use Rattle.mqb_script.specs.declared.events.Event.TheVariants.{Restart, Roll, Checkpoint}
 use Rattle.mqb_script.specs.Hosts.{manager_of}
 
 -- a manager and a moment
@@ -35,7 +39,8 @@ commit_from grammar (manager ∷ now ∷ ops) = do
   Ok (Commit at.0 at.1 steps)
 commit_from grammar _ = Err Value
 
-unfoldable pub sent_with : Grammar → List ℕ → List ℕ → List ℕ → List ℕ → List ℕ → Result Event LineKind
+unfoldable pub sent_with : Grammar → List ℕ → List ℕ → List ℕ → List ℕ → List ℕ
+    → Result Event LineKind
 sent_with grammar manager now kind priority send = do
   at ← at_of grammar manager now
   how ← how_of kind priority
@@ -43,7 +48,8 @@ sent_with grammar manager now kind priority send = do
   Ok (Send at.0 at.1 how.0 parts)
 
 unfoldable pub send_event : Grammar → List (List ℕ) → Result Event LineKind
-send_event grammar (manager ∷ now ∷ kind ∷ priority ∷ send ∷ []) = sent_with grammar manager now kind priority send
+send_event grammar (manager ∷ now ∷ kind ∷ priority ∷ send ∷ []) =
+    sent_with grammar manager now kind priority send
 send_event grammar _ = Err Value
 
 unfoldable pub take_event : Grammar → List (List ℕ) → Result Event LineKind
@@ -68,7 +74,8 @@ tick_from grammar _ = Err Value
 
 -- in a pair the other one accepts, and the windows are those of the first and the second
 abbrev pub between_two : ℕ → ℕ → ℕ → ℕ → Event
-between_two initiator now first second = if initiator == 0 then Connect 0 1 now first second else Connect 1 0 now second first
+between_two initiator now first second =
+    if initiator == 0 then Connect 0 1 now first second else Connect 1 0 now second first
 
 unfoldable pub connect_pair : List (List ℕ) → Result Event LineKind
 connect_pair (manager ∷ now ∷ alpha ∷ beta ∷ []) = do

@@ -1,5 +1,6 @@
 -- The managers of a script, and their words.
-use Rattle.std.specs.Prelude.{◌≡◌, ◌≢◌, ℕ, zero, suc, ◌+◌, ◌-◌, ◌<◌, ◌==◌, ◌++◌, List, [], ◌∷◌, codes, Result, Ok, Err, if◌then◌else◌}
+use Rattle.std.specs.Prelude.{◌≡◌, ◌≢◌, ℕ, zero, suc, ◌+◌, ◌-◌, ◌<◌, ◌==◌, ◌++◌, List, [], ◌∷◌}
+use Rattle.std.specs.Prelude.{codes, Result, Ok, Err, if◌then◌else◌}
 use Rattle.std.specs.Fmt.{decimal}
 use Rattle.mqb_base.specs.Same.{same_bytes}
 use Rattle.mqb_fields.specs.Reading.{◌>>=◌}
@@ -32,21 +33,24 @@ one_of_pair word = if same_bytes word (codes "alpha") then Ok 0
 -- an m and a number from 1 to the count
 abbrev pub one_of_ring : ℕ → List ℕ → Result ℕ LineKind
 one_of_ring count [] = Err Value
-one_of_ring count (first ∷ number) = if first == 0x6D then (number_in 1 count number >>= λ i. Ok (i - 1)) else Err Value
+one_of_ring count (first ∷ number) =
+    if first == 0x6D then (number_in 1 count number >>= λ i. Ok (i - 1)) else Err Value
 
 -- the index of the manager that a word names
 unfoldable pub manager_of : Grammar → List ℕ → Result ℕ LineKind
 manager_of Pair word = one_of_pair word
 manager_of (Ring count) word = one_of_ring count word
 
--- how many words more the lines of connections have than those of a pair, whose one connection needs no names
+-- how many words more the lines of connections have than those of a pair, whose one
+-- connection needs no names
 abbrev pub more_words : Grammar → ℕ
 more_words Pair = 0
 more_words (Ring count) = 1
 
 -- Two of them, which a connection may have as its ends.
 abbrev pub AreEnds : Grammar → ℕ → ℕ → Type 0
-AreEnds grammar initiator acceptor = (initiator < count_of grammar) × (acceptor < count_of grammar) × (initiator ≢ acceptor)
+AreEnds grammar initiator acceptor =
+    (initiator < count_of grammar) × (acceptor < count_of grammar) × (initiator ≢ acceptor)
 
 -- One whose connection a disconnect ends: in a pair it is named by the first.
 abbrev pub IsEnd : Grammar → ℕ → Type 0

@@ -1,5 +1,6 @@
 -- A line of a script, and what is wrong with it.
-use Rattle.std.specs.Prelude.{ℕ, Bool, true, ◌==◌, ◌&&◌, not, nat_le, List, [], ◌∷◌, length, Result, Err, if◌then◌else◌}
+use Rattle.std.specs.Prelude.{ℕ, Bool, true, ◌==◌, ◌&&◌, not, nat_le, List, [], ◌∷◌, length, Result}
+use Rattle.std.specs.Prelude.{Err, if◌then◌else◌}
 use Rattle.std.specs.List.{list_all, slice_split}
 use Rattle.mqb_fields.specs.Reading.{◌>>=◌}
 use Rattle.mqb_forms.specs.declared.faults.LineKind.{LineKind}
@@ -27,7 +28,8 @@ is_some_word word = not (length word == 0)
 
 -- no word is empty, and there are as many as the form has
 unfoldable pub are_counted : Grammar → Form → List (List ℕ) → Bool
-are_counted grammar form words = list_all is_some_word words && has_count grammar form (length words)
+are_counted grammar form words =
+    list_all is_some_word words && has_count grammar form (length words)
 
 -- a first word, its form and the words behind it
 unfoldable pub event_of_words : Grammar → List (List ℕ) → Result Event LineKind
@@ -36,6 +38,8 @@ event_of_words grammar (word ∷ words) = do
   form ← form_of word
   if are_counted grammar form words then event_from grammar form words else Err Count
 
--- The event of a line, or what is wrong with it: a byte, or else its first word, or else the count of its words, or else one of their values.
+-- The event of a line, or what is wrong with it: a byte, or else its first word, or else the count
+-- of its words, or else one of their values.
 unfoldable pub event_of : Grammar → List ℕ → Result Event LineKind
-event_of grammar line = if list_all is_printable line then event_of_words grammar (words_of line) else Err Byte
+event_of grammar line =
+    if list_all is_printable line then event_of_words grammar (words_of line) else Err Byte

@@ -1,7 +1,8 @@
 -- The events of a script with orders in it.
 use Rattle.std.specs.Fmt.{decimal}
 use Rattle.std.specs.List.{filter_map, flat_map, range_with_len}
-use Rattle.std.specs.Prelude.{[], ◌*◌, ◌+◌, ◌++◌, ◌-◌, ◌/◌, ◌==◌, ◌∷◌, Bool, List, None, Option, Some, codes, false, if◌then◌else◌, nat_le, true, ℕ}
+use Rattle.std.specs.Prelude.{[], ◌*◌, ◌+◌, ◌++◌, ◌-◌, ◌/◌, ◌==◌, ◌∷◌, Bool, List, None, Option}
+use Rattle.std.specs.Prelude.{Some, codes, false, if◌then◌else◌, nat_le, true, ℕ}
 use Rattle.mqb_base.specs.declared.draft.Op.{Op}
 use Rattle.mqb_base.specs.declared.draft.Op.TheVariants as op
 use Rattle.mqb_base.specs.declared.queue_names.Host.TheVariants.{Os}
@@ -14,7 +15,8 @@ use Rattle.mqb_forms.specs.Values.{MOST}
 use Rattle.mqb_forms.specs.declared.sends.Names.{Names}
 use Rattle.mqb_forms.specs.declared.sends.Terms.{Terms}
 use Rattle.mqb_script.specs.declared.events.Event.{Event}
-use Rattle.mqb_script.specs.declared.events.Event.TheVariants.{Commit, Connect, Disconnect, Flow, Queue, Restart}
+use Rattle.mqb_script.specs.declared.events.Event.TheVariants.{Commit, Connect, Disconnect, Flow}
+use Rattle.mqb_script.specs.declared.events.Event.TheVariants.{Queue, Restart}
 use Rattle.mqb_script.specs.Managers.{index_of}
 use Rattle.mqb_script.specs.declared.managers.Which.TheVariants.{Alpha, Beta}
 use Rattle.mqb_transcript.specs.Generator.{block_count, moment_of}
@@ -28,7 +30,11 @@ replies_at = queue_at (codes "alpha") (codes "replies")
 
 -- from where an order goes, and to where it is answered
 abbrev pub order_names : Names
-order_names = record { destination = queue_at (codes "beta") (codes "orders"); admin = Some replies_at; response = Some replies_at }
+order_names = record {
+  destination = queue_at (codes "beta") (codes "orders");
+  admin = Some replies_at;
+  response = Some replies_at;
+}
 
 -- four days, unlimited, and the acknowledgements that are asked for
 abbrev pub order_terms : Terms
@@ -71,13 +77,21 @@ abbrev pub flows_at : ℕ → List Event
 flows_at moment = Flow alpha moment ∷ Flow beta moment ∷ Flow alpha moment ∷ []
 
 abbrev pub block_of : ℕ → ℕ → List Event
-block_of n block = Commit alpha (moment_of block) (orders_in n block) ∷ (breaks_in (block_count n) block ++ flows_at (moment_of block))
+block_of n block = Commit alpha (moment_of block) (orders_in n block)
+    ∷ (breaks_in (block_count n) block ++ flows_at (moment_of block))
 
 abbrev pub plan_of : List ℕ → (transactional : Bool) → QueuePlan
-plan_of name transactional = record { name = name; public = None; transactional = transactional; quota = 100000; journal = false }
+plan_of name transactional = record {
+  name = name;
+  public = None;
+  transactional = transactional;
+  quota = 100000;
+  journal = false;
+}
 
 abbrev pub head_events : List Event
-head_events = Queue alpha (plan_of (codes "replies") false) ∷ Queue beta (plan_of (codes "orders") true) ∷ connection_at 1000 ∷ []
+head_events = Queue alpha (plan_of (codes "replies") false)
+    ∷ Queue beta (plan_of (codes "orders") true) ∷ connection_at 1000 ∷ []
 
 -- those of the script of n orders
 abbrev pub events_of : ℕ → List Event

@@ -1,4 +1,5 @@
-use Rattle.std.specs.Prelude.{◌≡◌, ℕ, ◌+◌, ◌<◌, ◌≤◌, List, [], ◌∷◌, ◌++◌, length, Option, Result, Ok, Err, IfSome}
+use Rattle.std.specs.Prelude.{◌≡◌, ℕ, ◌+◌, ◌<◌, ◌≤◌, List, [], ◌∷◌, ◌++◌, length, Option, Result}
+use Rattle.std.specs.Prelude.{Ok, Err, IfSome}
 use Rattle.mqb_outside.specs.Told.{Gave}
 use Rattle.mqb_outside.specs.Faults.{Rose}
 use Rattle.mqb_forms.specs.declared.faults.LineKind.{LineKind}
@@ -26,12 +27,17 @@ begun (line ∷ lines) = begun lines + 1
 abbrev pub line_count : List ℕ → ℕ
 line_count text = begun (lines_of text)
 
--- the answer to the bytes that were taken, once they were taken to the end of the input or until there were too many
-abbrev pub Answers : {T : Type 0} → (List ℕ → Result T (ℕ × LineKind)) → List ℕ → Result T ScriptFault → Type 0
-Answers script_of text (Ok script) = (length text ≤ LONGEST) × (line_count text ≤ MOST_LINES) × (script_of text ≡ Ok script)
-Answers script_of text (Err (fault.Line number kind)) = (length text ≤ LONGEST) × (line_count text ≤ MOST_LINES) × (script_of text ≡ Err (number, kind))
+-- the answer to the bytes that were taken, once they were taken to the end of the input or
+-- until there were too many
+abbrev pub Answers : {T : Type 0} → (List ℕ → Result T (ℕ × LineKind)) → List ℕ
+    → Result T ScriptFault → Type 0
+Answers script_of text (Ok script) =
+    (length text ≤ LONGEST) × (line_count text ≤ MOST_LINES) × (script_of text ≡ Ok script)
+Answers script_of text (Err (fault.Line number kind)) =
+    (length text ≤ LONGEST) × (line_count text ≤ MOST_LINES) × (script_of text ≡ Err (number, kind))
 Answers script_of text (Err fault.TooLong) = LONGEST < length text
-Answers script_of text (Err fault.TooManyLines) = (length text ≤ LONGEST) × (MOST_LINES < line_count text)
+Answers script_of text (Err fault.TooManyLines) =
+    (length text ≤ LONGEST) × (MOST_LINES < line_count text)
 Answers script_of text (Err fault.ReadFault) = length text ≤ LONGEST
 Answers script_of text (Err fault.Memory) = length text ≤ LONGEST
 
@@ -42,8 +48,10 @@ AtEnd after (Err (fault.Line number kind)) = IfSome after (λ rest. rest ≡ [])
 AtEnd after (Err fault.TooManyLines) = IfSome after (λ rest. rest ≡ [])
 AtEnd after (Err _) = Unit {0}
 
--- A script was read from a source that held before and holds after, as this says which texts are scripts.
-pub record ReadsScript {T : Type 0} (script_of : List ℕ → Result T (ℕ × LineKind)) (before after : Option (List ℕ)) (r : Result T ScriptFault) : Type 0 where
+-- A script was read from a source that held before and holds after, as this says
+-- which texts are scripts.
+pub record ReadsScript {T : Type 0} (script_of : List ℕ → Result T (ℕ × LineKind))
+    (before after : Option (List ℕ)) (r : Result T ScriptFault) : Type 0 where
   -- what was taken
   pub text : List ℕ
   pub gave : Gave before after text
@@ -52,7 +60,8 @@ pub record ReadsScript {T : Type 0} (script_of : List ℕ → Result T (ℕ × L
 
 -- No text of a script was read, whichever texts are scripts.
 abbrev pub IsUnread : Option (List ℕ) → Option (List ℕ) → ScriptFault → Type 0
-IsUnread before after f = (script_of : List ℕ → Result (Unit {0}) (ℕ × LineKind)) → ReadsScript script_of before after (Err f)
+IsUnread before after f = (script_of : List ℕ → Result (Unit {0}) (ℕ × LineKind))
+    → ReadsScript script_of before after (Err f)
 
 -- only a fault of the source raises its count of faults
 abbrev pub IsCause : ℕ → ℕ → ScriptFault → Type 0
@@ -76,10 +85,13 @@ IsScriptFault read fault.Memory = Unit {0}
 IsScriptFault read _ = ⊥
 
 -- what was read in front of more
-abbrev pub in_front : List (ℕ × Event) → Result (List (ℕ × Event)) (ℕ × LineKind) → Result (List (ℕ × Event)) (ℕ × LineKind)
+abbrev pub in_front : List (ℕ × Event) → Result (List (ℕ × Event)) (ℕ × LineKind)
+    → Result (List (ℕ × Event)) (ℕ × LineKind)
 in_front events (Ok more) = Ok (events ++ more)
 in_front events (Err first) = Err first
 
 -- Line n was read behind the events of the lines before it.
 abbrev pub ReadsLine : Grammar → ℕ → List ℕ → List (ℕ × Event) → List (ℕ × Event) → Type 0
-ReadsLine grammar n line before after = (rest : List (List ℕ)) → in_front before (script_from grammar n (line ∷ rest)) ≡ in_front after (script_from grammar (n + 1) rest)
+ReadsLine grammar n line before after =
+    (rest : List (List ℕ)) → in_front before (script_from grammar n (line ∷ rest))
+    ≡ in_front after (script_from grammar (n + 1) rest)

@@ -21,7 +21,8 @@ numbered n (Err kind) = Err (n, kind)
 abbrev pub script_from : Grammar → ℕ → List (List ℕ) → Result (List (ℕ × Event)) (ℕ × LineKind)
 script_from grammar n [] = Ok []
 script_from grammar n (line ∷ lines) = if is_skipped line then script_from grammar (n + 1) lines
-    else (numbered n (event_of grammar line) >>= λ event. script_from grammar (n + 1) lines >>= λ events. Ok ((n, event) ∷ events))
+    else (numbered n (event_of grammar line) >>= λ event.
+    script_from grammar (n + 1) lines >>= λ events. Ok ((n, event) ∷ events))
 
 -- the script of a pair
 abbrev pub script_of : List ℕ → Result (List (ℕ × Event)) (ℕ × LineKind)

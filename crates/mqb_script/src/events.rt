@@ -2,7 +2,8 @@ use mqb_base::{Draft, Place, QueuePlan};
 use mqb_forms::Ops;
 use mqb_outside::{Mode, Pick};
 
-/// A line of a script. Managers are told by their index, from 0; moments are seconds since 1970, packets are numbered from 1.
+/// A line of a script. Managers are told by their index, from 0; moments are seconds since 1970,
+/// packets are numbered from 1.
 #[derive(Debug, Drop)]
 pub enum Event {
     /// `queue M NAME tx|plain QUOTA journal|none [GUID]`
@@ -40,7 +41,8 @@ pub enum Event {
         manager: u32,
         now: u32,
     },
-    /// `connect M NOW WALPHA WBETA` of a pair, `connect M M NOW W W` of a ring; each window from 1 to 65535
+    /// `connect M NOW WALPHA WBETA` of a pair, `connect M M NOW W W` of a ring; each
+    /// window from 1 to 65535
     Connect {
         initiator: u32,
         acceptor: u32,

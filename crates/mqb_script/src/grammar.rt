@@ -3,7 +3,8 @@ ghost use Rattle.mqb_script.specs.Hosts.{more_words, manager_of, one_of_pair, on
 
 use mqb_forms::{LineKind, is_word, number_in};
 
-/// Whose script it is: how its managers are called, and whether a line names both ends of a connection.
+/// Whose script it is: how its managers are called, and whether a line names both
+/// ends of a connection.
 #[derive(Clone, Copy, Debug, PartialEq, Eq)]
 pub enum Grammar {
     /// Of two, `alpha` and `beta`. There is one connection, so that its ends need not be named.

@@ -7,7 +7,8 @@ ghost use Rattle.mqb_script.specs.Hosts.{MOST_MANAGERS, count_of};
 ghost use Rattle.mqb_script.specs.Lines.{is_skipped, event_of};
 ghost use Rattle.mqb_script.specs.Spelling.{IsSpelled, line_of};
 
-/// A law of the grammar: the line of an event is no comment, and is read as that event. A body of bytes `x` may also be told by its length.
+/// A law of the grammar: the line of an event is no comment, and is read as that event. A body of
+/// bytes `x` may also be told by its length.
 pub fn lines_are_read_back()
     ensures kept { (grammar : Grammar) (event : Event) → IsSpelled grammar event →
         is_skipped (line_of grammar event) ≡ false }

@@ -2,8 +2,14 @@ ghost use Rattle.std.specs.Prelude.{◌≡◌, ◌≤◌, map, IfOk};
 ghost use Rattle.std.specs.List.{list_all};
 ghost use Rattle.mqb_forms.specs.Faults.{Adds, Reads};
 ghost use Rattle.mqb_forms.specs.Plans.{public_of, plan_of, how_of};
-ghost use Rattle.mqb_script.specs.Lines.{words_of, is_skipped, is_printable, is_some_word, are_counted, event_of_words, event_of};
-ghost use Rattle.mqb_script.specs.Grammar.{at_of, queue_from, commit_from, sent_with, send_event, take_event, purge_from, tick_from, between_two, connect_pair, connect_named, connect_from, disconnect_from, pump_from, deliver_from, drop_from, flow_from, resend_from, arm_from, restart_from, roll_from, checkpoint_from, event_from};
+ghost use Rattle.mqb_script.specs.Lines.{words_of, is_skipped, is_printable, is_some_word};
+ghost use Rattle.mqb_script.specs.Lines.{are_counted, event_of_words, event_of};
+ghost use Rattle.mqb_script.specs.Grammar.{at_of, queue_from, commit_from, sent_with, send_event};
+ghost use Rattle.mqb_script.specs.Grammar.{take_event, purge_from, tick_from, between_two};
+ghost use Rattle.mqb_script.specs.Grammar.{connect_pair, connect_named, connect_from};
+ghost use Rattle.mqb_script.specs.Grammar.{disconnect_from, pump_from, deliver_from, drop_from};
+ghost use Rattle.mqb_script.specs.Grammar.{flow_from, resend_from, arm_from, restart_from};
+ghost use Rattle.mqb_script.specs.Grammar.{roll_from, checkpoint_from, event_from};
 
 use crate::events::Event;
 use crate::forms::{Form, form_of};
@@ -323,7 +329,8 @@ fn add_from(
     form: Form,
     words: &[&[u8]],
 ) -> Result<(), LineFault>
-    ensures { Adds (λ event. (number, event)) (event_from grammar form (map (λ word. word.now) words.now))
+    ensures { Adds (λ event. (number, event))
+        (event_from grammar form (map (λ word. word.now) words.now))
         script.old script.new result }
 {
     let event = match form {
@@ -375,7 +382,8 @@ fn add_words(
     number: u32,
     words: &[&[u8]],
 ) -> Result<(), LineFault>
-    ensures { Adds (λ event. (number, event)) (event_of_words grammar (map (λ word. word.now) words.now))
+    ensures { Adds (λ event. (number, event))
+        (event_of_words grammar (map (λ word. word.now) words.now))
         script.old script.new result }
 {
     let [word, words @ ..] = words else {
@@ -413,7 +421,8 @@ pub(crate) fn are_printable(line: &[u8]) -> bool
     all
 }
 
-/// Adds the event of the line of a number. An event is large, so it goes to the script at once, and not through the answer of each function.
+/// Adds the event of the line of a number. An event is large, so it goes to the script at once, and
+/// not through the answer of each function.
 #[tactic(auto, unfolding(crate::specs::Lines::event_of))]
 pub(crate) fn add_event(
     script: &mut Script,
@@ -422,7 +431,8 @@ pub(crate) fn add_event(
     number: u32,
     line: &[u8],
 ) -> Result<(), LineFault>
-    ensures { Adds (λ event. (number, event)) (event_of grammar line.now) script.old script.new result }
+    ensures { Adds (λ event. (number, event))
+        (event_of grammar line.now) script.old script.new result }
 {
     if !are_printable(line) {
         return Err(LineFault::Faulty(LineKind::Byte));

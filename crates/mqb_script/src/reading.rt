@@ -1,9 +1,11 @@
 ghost use Rattle.mqb_script.specs.declared.grammar.Grammar.TheVariants.{Pair};
-ghost use Rattle.std.specs.Prelude.{◌≡◌, ◌+◌, map, ◌==◌, ◌≤◌, ◌++◌, ◌∷◌, [], false, length, Ok, Err, IfOk, IfErr, OnOk, OnErr};
+ghost use Rattle.std.specs.Prelude.{◌≡◌, ◌+◌, map, ◌==◌, ◌≤◌, ◌++◌, ◌∷◌, [], false, length, Ok};
+ghost use Rattle.std.specs.Prelude.{Err, IfOk, IfErr, OnOk, OnErr};
 ghost use Rattle.std.specs.List.{AllByRecursion, count_by};
 ghost use Rattle.mqb_script.specs.Lines.{is_skipped, event_of};
 ghost use Rattle.mqb_script.specs.Script.{numbered, script_from, script_of};
-ghost use Rattle.mqb_script.specs.Reading.{LONGEST, MOST_LINES, line_count, ReadsScript, IsUnread, IsCause, ReadCause, ReadsLine, IsScriptFault, IsWhole};
+ghost use Rattle.mqb_script.specs.Reading.{LONGEST, MOST_LINES, line_count, ReadsScript, IsUnread};
+ghost use Rattle.mqb_script.specs.Reading.{IsCause, ReadCause, ReadsLine, IsScriptFault, IsWhole};
 ghost use Rattle.mqb_script.specs.Formed.{IsFormed};
 
 use crate::events::Event;
@@ -114,7 +116,8 @@ fn line_count(text: &[u8]) -> usize
     line_feeds(front) + 1
 }
 
-/// The script that these lines are, whose numbers go on behind this one, or the first of them that fails.
+/// The script that these lines are, whose numbers go on behind this one, or the
+/// first of them that fails.
 pub(crate) fn script_from(
     grammar: Grammar,
     alloc: Global,
@@ -163,7 +166,8 @@ pub(crate) fn read_text<S: Source>(alloc: Global, source: &mut S) -> Result<Vec<
     Ok(text)
 }
 
-/// Reads a script of a pair whole. Its lines are looked at only once the input was read to its end, and they are counted first.
+/// Reads a script of a pair whole. Its lines are looked at only once the input was read to its end,
+/// and they are counted first.
 #[tactic(auto, using(crate::proofs::Unread::unread))]
 pub fn read_script<S: Source>(alloc: Global, source: &mut S) -> Result<Script, ScriptFault>
     ensures reads { ReadsScript script_of (S.held source.old) (S.held source.new) result }

@@ -1,6 +1,7 @@
 ghost use Rattle.std.specs.Prelude.{◌≡◌, ◌≤◌, length, map, Ok, IfOk, IfErr, IfSome};
 ghost use Rattle.mqb_forms.specs.Faults.{Reads};
-ghost use Rattle.mqb_script.specs.Reading.{LONGEST, MOST_LINES, line_count, ReadsScript, ReadCause, IsScriptFault};
+ghost use Rattle.mqb_script.specs.Reading.{LONGEST, MOST_LINES, line_count, ReadsScript};
+ghost use Rattle.mqb_script.specs.Reading.{ReadCause, IsScriptFault};
 ghost use Rattle.mqb_script.specs.Ring.{IsRing, count_from, count_in, ring_of};
 
 use crate::faults::{ScriptFault, at_line};
@@ -11,7 +12,8 @@ use mqb_forms::{LineFault, LineKind, is_word, number_in, parts};
 use mqb_outside::Source;
 use std::alloc::Global;
 
-/// The script of a ring: how many managers it has, by the line of this number, and the events of the lines behind that one.
+/// The script of a ring: how many managers it has, by the line of this number, and the events of
+/// the lines behind that one.
 #[derive(Debug, Drop)]
 pub struct RingScript {
     pub line: u32,
@@ -51,7 +53,8 @@ fn count_in(alloc: Global, line: &[u8]) -> Result<u32, LineFault>
     Ok(count)
 }
 
-/// The script of a ring that a text is, or the first of its lines that fails. Where it has no lines but those that are skipped, it is a script of any ring.
+/// The script of a ring that a text is, or the first of its lines that fails. Where it has no lines
+/// but those that are skipped, it is a script of any ring.
 fn ring_of(alloc: Global, text: &[u8]) -> Result<Option<RingScript>, ScriptFault>
     requires { length text.now ≤ LONGEST }
     ensures script { IfOk result (λ script. ring_of text.now ≡ Ok script) }
@@ -76,7 +79,8 @@ fn ring_of(alloc: Global, text: &[u8]) -> Result<Option<RingScript>, ScriptFault
     Ok(None)
 }
 
-/// Reads a script of a ring whole: its first line says how many managers there are, and the others are those of a script. `None` where it has no lines.
+/// Reads a script of a ring whole: its first line says how many managers there are, and the others
+/// are those of a script. `None` where it has no lines.
 #[tactic(auto, using(crate::proofs::Unread::unread))]
 pub fn read_ring<S: Source>(
     alloc: Global,

@@ -29,14 +29,19 @@ abbrev pub IsCalled : View → View → Bool → SeatState → SeatState → Out
 IsCalled d e stopped s t o (Told reply recorded) = IsMove d e s t o None
     × (reply_of o.answer (lines_after (seated s) o) ≡ Ok reply)
     × ((if recorded then t.manager.store.lines else []) ≡ lines_after (seated s) o)
-IsCalled d e stopped s t o (Broke how) = IsMove d e s t o (Some (failure_of how)) × (how ≡ how_by stopped)
+IsCalled d e stopped s t o (Broke how) =
+    IsMove d e s t o (Some (failure_of how)) × (how ≡ how_by stopped)
 
--- A checkpoint went well or was refused, and is told so; or the disk failed in it. It has no record.
+-- A checkpoint went well or was refused, and is told so; or the disk failed in
+-- it. It has no record.
 abbrev pub IsRewritten : View → View → Bool → SeatState → SeatState → Called → Type 0
-IsRewritten d e stopped s t (Told reply recorded) = IsRewriting d e s t None × (checkpoint_reply (rewriting s).answer ≡ Ok reply) × (recorded ≡ false)
-IsRewritten d e stopped s t (Broke how) = IsRewriting d e s t (Some (failure_of how)) × (how ≡ how_by stopped)
+IsRewritten d e stopped s t (Told reply recorded) = IsRewriting d e s t None
+    × (checkpoint_reply (rewriting s).answer ≡ Ok reply) × (recorded ≡ false)
+IsRewritten d e stopped s t (Broke how) =
+    IsRewriting d e s t (Some (failure_of how)) × (how ≡ how_by stopped)
 
 -- what a manager answers to a checkpoint, told so
 abbrev pub TellsRewritten : Bool → Result (Unit {0}) CheckpointFault → Called → Type 0
-TellsRewritten stopped r (Told reply recorded) = (checkpoint_reply r ≡ Ok reply) × (recorded ≡ false)
+TellsRewritten stopped r (Told reply recorded) =
+    (checkpoint_reply r ≡ Ok reply) × (recorded ≡ false)
 TellsRewritten stopped r (Broke how) = (r ≡ Err fault.DiskFault) × (how ≡ how_by stopped)

@@ -9,7 +9,8 @@ use Rattle.mqb_moves.specs.Seats.{IsHeldOn, SeatState, seated}
 use Rattle.mqb_seats.specs.declared.restarting.Opened.{Opened}
 use Rattle.mqb_seats.specs.declared.restarting.Opened.TheVariants.{Kept, Same, Unread}
 
--- A disk is as its last restart left it: that is what a crash leaves, and so nothing was written since.
+-- A disk is as its last restart left it: that is what a crash leaves, and so
+-- nothing was written since.
 abbrev pub IsAsLeft : View → Type 0
 IsAsLeft d = Each d.leaves (λ c. d.switch.last_left ≡ Some c)
 
@@ -29,7 +30,8 @@ pub record OpenedKept (d e : View) (s t : SeatState) : Type 0 where
   pub held : IsHeldOn e t
   pub faults : e.faults ≡ d.faults
 
--- Its disk failed, and it has the records that it had: what stands on the disk is these, or the one in doubt besides.
+-- Its disk failed, and it has the records that it had: what stands on the disk is these, or the
+-- one in doubt besides.
 pub record NotOpened (d e : View) (s t : SeatState) : Type 0 where
   pub manager : seated t ≡ unread (seated s)
   pub count : t.manager.store.journal.count ≡ s.manager.store.journal.count

@@ -12,12 +12,14 @@ use Rattle.mqb_seats.specs.Called.{failure_of, how_by}
 use Rattle.mqb_seats.specs.declared.packets.Passed.{Passed}
 use Rattle.mqb_seats.specs.declared.packets.Passed.TheVariants.{Broke, Gone, Heard}
 
--- A packet was heard as this, with the lines of its record; or the manager hears nothing; or the disk failed.
+-- A packet was heard as this, with the lines of its record; or the manager hears
+-- nothing; or the disk failed.
 abbrev pub IsHeard : View → View → Bool → SeatState → SeatState → HeardOutcome → Passed → Type 0
 IsHeard d e stopped s t o (Heard heard recorded) = IsMove d e s t o None × (o.answer ≡ Ok heard)
     × ((if recorded then t.manager.store.lines else []) ≡ lines_after (seated s) o)
 IsHeard d e stopped s t o Gone = IsMove d e s t o None × ((why : HearFault) × (o.answer ≡ Err why))
-IsHeard d e stopped s t o (Broke how) = IsMove d e s t o (Some (failure_of how)) × (how ≡ how_by stopped)
+IsHeard d e stopped s t o (Broke how) =
+    IsMove d e s t o (Some (failure_of how)) × (how ≡ how_by stopped)
 
 -- what a manager answers to a packet, told so
 abbrev pub TellsHeard : Bool → Result HeardSo HearFault → Bool → Passed → Type 0

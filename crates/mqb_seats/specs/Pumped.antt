@@ -1,5 +1,6 @@
 -- What became of the packets that a manager gave out.
-use Rattle.std.specs.Prelude.{[], ◌++◌, ◌≡◌, Bool, Err, List, None, Ok, Result, Some, flat_map, if◌then◌else◌, map, ℕ}
+use Rattle.std.specs.Prelude.{[], ◌++◌, ◌≡◌, Bool, Err, List, None, Ok, Result, Some, flat_map}
+use Rattle.std.specs.Prelude.{if◌then◌else◌, map, ℕ}
 use Rattle.mqb_outside.specs.Disk.{View}
 use Rattle.mqb_model.specs.calls.pump.Pump.{PumpOutcome}
 use Rattle.mqb_model.specs.declared.faults.PumpFault.{PumpFault}
@@ -35,17 +36,20 @@ pub record IsRefused (s : SeatState) (o : PumpOutcome) (given : Reply) : Type 0 
   pub unchanged : o ≡ answering (seated s) (Err why)
   pub told : pump_fault_reply why ≡ Ok given
 
--- So many packets went, with the lines of a record; or the pump was refused; or the disk failed in it.
+-- So many packets went, with the lines of a record; or the pump was refused; or
+-- the disk failed in it.
 abbrev pub IsPumped : View → View → Bool → SeatState → SeatState → PumpOutcome → Pumped → Type 0
 IsPumped d e stopped s t o (Went count recorded) = IsMove d e s t o None × (o.answer ≡ Ok count)
     × ((if recorded then t.manager.store.lines else []) ≡ lines_after (seated s) o)
 IsPumped d e stopped s t o (Refused given) = IsMove d e s t o None × IsRefused s o given
-IsPumped d e stopped s t o (Broke how) = IsMove d e s t o (Some (failure_of how)) × (how ≡ how_by stopped)
+IsPumped d e stopped s t o (Broke how) =
+    IsMove d e s t o (Some (failure_of how)) × (how ≡ how_by stopped)
 
 -- what a manager answers to a pump, told so
 abbrev pub TellsPumped : Bool → Result ℕ PumpFault → Bool → Pumped → Type 0
 TellsPumped stopped r recorded (Went count told) = (r ≡ Ok count) × (told ≡ recorded)
-TellsPumped stopped r recorded (Refused given) = (why : PumpFault) × (r ≡ Err why) × (pump_fault_reply why ≡ Ok given)
+TellsPumped stopped r recorded (Refused given) =
+    (why : PumpFault) × (r ≡ Err why) × (pump_fault_reply why ≡ Ok given)
 TellsPumped stopped r recorded (Broke how) = (r ≡ Err fault.DiskFault) × (how ≡ how_by stopped)
 
 -- the packets that went
@@ -58,8 +62,14 @@ pub record SpellPumped (o : PumpOutcome) (bytes : List ℕ) (pumped : Pumped) : 
   pub writable : AreWritable (packets_by o pumped)
   pub are : bytes ≡ flat_map plain_spelling (packets_by o pumped)
 
--- Each packet that went is a string of the medium now; or one of those that were to go would not fit it, which has those before it; or memory ran out.
-abbrev pub ArePosted : (strings strings_now : List (List ℕ)) → PumpOutcome → Result Pumped PostFault → Type 0
-ArePosted strings strings_now o (Ok pumped) = (strings_now ≡ strings ++ map plain_spelling (packets_by o pumped)) × IsWithin strings_now × AreWritable (packets_by o pumped)
-ArePosted strings strings_now o (Err post.NetFull) = IsCutOff strings strings_now (map plain_spelling o.packets)
-ArePosted strings strings_now o (Err post.Memory) = HasFront strings strings_now (map plain_spelling o.packets)
+-- Each packet that went is a string of the medium now; or one of those that were to go would not
+-- fit it, which has those before it; or memory ran out.
+abbrev pub ArePosted : (strings strings_now : List (List ℕ)) → PumpOutcome → Result Pumped PostFault
+    → Type 0
+ArePosted strings strings_now o (Ok pumped) =
+    (strings_now ≡ strings ++ map plain_spelling (packets_by o pumped)) × IsWithin strings_now
+    × AreWritable (packets_by o pumped)
+ArePosted strings strings_now o (Err post.NetFull) =
+    IsCutOff strings strings_now (map plain_spelling o.packets)
+ArePosted strings strings_now o (Err post.Memory) =
+    HasFront strings strings_now (map plain_spelling o.packets)

@@ -29,7 +29,8 @@ fn rewritten<P: Power>(disk: &P, answer: Result<(), CheckpointFault>) -> Result<
 }
 
 impl Seat {
-    /// Writes the state of the manager anew, in place of its records. One that is down writes nothing.
+    /// Writes the state of the manager anew, in place of its records. One that is
+    /// down writes nothing.
     pub fn checkpoint<P: Power>(&mut self, disk: &mut P) -> Result<Called, Memory>
         requires held { IsHeldOn (P.view disk.old) self.old }
         ensures rewritten { IfOk result (IsRewritten (P.view disk.old) (P.view disk.new)

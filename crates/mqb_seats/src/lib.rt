@@ -1,6 +1,8 @@
-//! A manager with its disk, as it stands in a network: each request of it is told as a reply, or its disk stopped or failed in it.
+//! A manager with its disk, as it stands in a network: each request of it is told as a reply, or
+//! its disk stopped or failed in it.
 //!
-//! `mqb_moves` says what that is to the network. A manager whose start failed is down as well, and is called no more until a start of it succeeds.
+//! `mqb_moves` says what that is to the network. A manager whose start failed is down as well, and
+//! is called no more until a start of it succeeds.
 #![tactic(auto)]
 
 mod asking;

@@ -1,4 +1,5 @@
-//! How connections begin and end at a manager, and how it starts sending anew. None of it calls a disk.
+//! How connections begin and end at a manager, and how it starts sending anew.
+//! None of it calls a disk.
 ghost use Rattle.std.specs.Prelude.{◌≡◌, ◌≤◌, false};
 ghost use Rattle.mqb_model.specs.calls.Link.{link, resend};
 ghost use Rattle.mqb_model.specs.managers.Manager.{is_down};

@@ -148,7 +148,8 @@ impl Seat {
     /// Sends the packets that go at a moment in seconds: each is added to the medium.
     ///
     /// # Errors
-    /// `NetFull` where the next one would pass the medium's limit, `Memory`: those before it were added.
+    /// `NetFull` where the next one would pass the medium's limit, `Memory`: those
+    /// before it were added.
     pub fn pump<P: Power, M: Medium>(
         &mut self,
         disk: &mut P,

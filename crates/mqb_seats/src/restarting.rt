@@ -1,4 +1,5 @@
-//! How a call of a manager's disk is armed, and how the manager is dropped and started again over what a restart left there.
+//! How a call of a manager's disk is armed, and how the manager is dropped and started again over
+//! what a restart left there.
 ghost use Rattle.std.specs.Prelude.{◌==◌, ◌≡◌, ◌≤◌, IfOk, Some, not};
 ghost use Rattle.mqb_outside.specs.Disk.{Counted};
 ghost use Rattle.mqb_moves.specs.Calling.{seat_of};
@@ -33,7 +34,8 @@ fn opened_by(kept: bool) -> Opened
 }
 
 impl Seat {
-    /// The manager that was started takes the place of the one before. The count of records tells whether the one in doubt was kept.
+    /// The manager that was started takes the place of the one before. The count of records tells
+    /// whether the one in doubt was kept.
     fn opened(&mut self, manager: Manager) -> Opened
         ensures seat { self.new ≡ seat_of manager }
         ensures opened { result ≡
@@ -60,11 +62,12 @@ impl Seat {
         disk.arm(call, mode);
     }
 
-    /// Leaves on the disk what a crash may leave, and starts the manager on that: nothing is written behind it. Where the disk fails, the manager is down,
-    /// with the doubt that there was.
+    /// Leaves on the disk what a crash may leave, and starts the manager on that: nothing is
+    /// written behind it. Where the disk fails, the manager is down, with the doubt that there was.
     pub fn restart<P: Power>(&mut self, disk: &mut P, pick: Pick) -> Result<Opened, Memory>
         requires { IsHeldOn (P.view disk.old) self.old }
-        ensures opened { IfOk result (IsOpened (P.view disk.old) (P.view disk.new) self.old self.new) }
+        ensures opened { IfOk result
+            (IsOpened (P.view disk.old) (P.view disk.new) self.old self.new) }
         ensures restarts { Counted 1 (P.view disk.old).switch.restarts
             (P.view disk.new).switch.restarts }
         ensures arms { (P.view disk.new).switch.arms ≡ (P.view disk.old).switch.arms }

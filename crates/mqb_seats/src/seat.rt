@@ -1,4 +1,5 @@
-ghost use Rattle.std.specs.Prelude.{[], ◌≡◌, IfOk, None, Some, false, if◌then◌else◌, option_copied, true};
+ghost use Rattle.std.specs.Prelude.{[], ◌≡◌, IfOk, None, Some, false, if◌then◌else◌};
+ghost use Rattle.std.specs.Prelude.{option_copied, true};
 ghost use Rattle.mqb_model.specs.managers.Manager.{is_down};
 ghost use Rattle.mqb_model.specs.managers.Valid.{IsValidManager};
 ghost use Rattle.mqb_moves.specs.Calling.{seat_of};
@@ -12,7 +13,8 @@ use mqb_transcript::Listed;
 use std::alloc::Global;
 use std::marker::Model;
 
-/// A manager with its disk. Where a start of it failed, the manager in it is the one of before, which is called no more.
+/// A manager with its disk. Where a start of it failed, the manager in it is the one of before,
+/// which is called no more.
 #[derive(Debug)]
 pub struct Seat {
     pub(crate) alloc: Global,
@@ -72,7 +74,8 @@ impl Seat {
 
     /// The manager, where it is up.
     pub fn manager(&self) -> Option<&Manager>
-        ensures up { is_down (seated self.now) ≡ false → option_copied result ≡ Some self.now.manager }
+        ensures up { is_down (seated self.now) ≡ false
+            → option_copied result ≡ Some self.now.manager }
         ensures down { is_down (seated self.now) ≡ true → option_copied result ≡ None }
     {
         if self.is_down() {

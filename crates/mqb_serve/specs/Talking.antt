@@ -1,4 +1,5 @@
--- The manager of a connection with its records, and what the steps of a connection leave of its disk.
+-- The manager of a connection with its records, and what the steps of a
+-- connection leave of its disk.
 use Rattle.std.specs.Prelude.{Err, None, Ok, Option, Result, Some, cond, ℕ}
 use Rattle.mqb_base.specs.declared.heard.Heard.{Heard}
 use Rattle.mqb_outside.specs.Disk.{View}
@@ -24,7 +25,8 @@ UpUnless (Ok done) n = IsUp n
 UpUnless (Err why) n = cond (is_disk_fault why) (Unit {0}) (IsUp n)
 
 -- Steps of a manager over a disk, from before them to behind them.
-pub record Keeps {T : Type 0} (d e : View) (m n : ManagerState) (r : Result T ConnFault) : Type 0 where
+pub record Keeps {T : Type 0} (d e : View) (m n : ManagerState)
+    (r : Result T ConnFault) : Type 0 where
   pub disk : KeepsDisk d e m n
   pub up : UpUnless r n
   pub faults : FaultsAsSaid is_disk_fault d.faults e.faults r

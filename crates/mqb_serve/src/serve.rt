@@ -3,7 +3,8 @@ ghost use Rattle.mqb_journal.specs.Causes.{FaultsAsSaid};
 ghost use Rattle.mqb_manager.specs.States.{IsOnDisk, IsUp};
 ghost use Rattle.mqb_manager.specs.Keeping.{KeepsDisk};
 ghost use Rattle.mqb_serve.specs.Talking.{Keeps, stored_of};
-ghost use Rattle.mqb_serving.specs.Serving.{Serves, ServesWhole, answer_of, is_disk_fault, is_read_fault, is_write_fault};
+ghost use Rattle.mqb_serving.specs.Serving.{Serves, ServesWhole, answer_of, is_disk_fault};
+ghost use Rattle.mqb_serving.specs.Serving.{is_read_fault, is_write_fault};
 ghost use Rattle.mqb_serving.specs.Steps.{Converses, Stands};
 ghost use Rattle.mqb_serving.specs.Conversations.{Conversation, no_bytes};
 
@@ -63,7 +64,8 @@ fn is_disk_fault(fault: &ConnFault) -> bool
     matches!(fault, ConnFault::DiskFault)
 }
 
-/// Links a manager, converses for a purpose, and forgets the connection. A manager that is down has forgotten it.
+/// Links a manager, converses for a purpose, and forgets the connection. A manager that is
+/// down has forgotten it.
 fn serve<D: Disk, C: Conn>(
     alloc: Global,
     disk: &mut D,
@@ -107,10 +109,12 @@ fn serve<D: Disk, C: Conn>(
     }
 }
 
-/// Serves one connection that a peer made: the manager waits to be asked for a session. All calls have the moment `now`, in seconds.
+/// Serves one connection that a peer made: the manager waits to be asked for a session. All calls
+/// have the moment `now`, in seconds.
 ///
 /// # Errors
-/// `Peer`: the connection ended badly, by what the peer did. `ReadFault`, `WriteFault`, `Memory`: it was cut short. `DiskFault`: the manager is down.
+/// `Peer`: the connection ended badly, by what the peer did. `ReadFault`, `WriteFault`, `Memory`:
+/// it was cut short. `DiskFault`: the manager is down.
 pub fn serve_one<D: Disk, C: Conn>(
     alloc: Global,
     disk: &mut D,
@@ -140,8 +144,9 @@ pub fn serve_one<D: Disk, C: Conn>(
     serve(alloc, disk, manager, Purpose::Serve, conn, now)
 }
 
-/// Pushes to the peer at an index, over a connection to it: the manager asks for a session, and the connection ends as soon as nothing for the peer is
-/// outstanding. All calls have the moment `now`, in seconds.
+/// Pushes to the peer at an index, over a connection to it: the manager asks for a session, and
+/// the connection ends as soon as nothing for the peer is outstanding. All calls have the
+/// moment `now`, in seconds.
 ///
 /// # Errors
 /// As of `serve_one`.
@@ -186,8 +191,8 @@ pub fn push_one<D: Disk, C: Conn>(
     )
 }
 
-/// Pushes to the peer at an index, and goes on when it is through, for what waits there: the connection ends where no more bytes come. All calls have the
-/// moment `now`, in seconds.
+/// Pushes to the peer at an index, and goes on when it is through, for what waits there: the
+/// connection ends where no more bytes come. All calls have the moment `now`, in seconds.
 ///
 /// # Errors
 /// As of `serve_one`.

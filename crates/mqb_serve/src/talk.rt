@@ -1,14 +1,18 @@
 //! What one end of a connection does, step by step.
-ghost use Rattle.std.specs.Prelude.{[], ◌≡◌, ◌+◌, ◌<◌, ◌≤◌, Err, IfErr, IfOk, IfSome, None, Ok, OnErr, false, length, take, true};
+ghost use Rattle.std.specs.Prelude.{[], ◌≡◌, ◌+◌, ◌<◌, ◌≤◌, Err, IfErr, IfOk, IfSome, None, Ok};
+ghost use Rattle.std.specs.Prelude.{OnErr, false, length, take, true};
 ghost use Rattle.mqb_outside.specs.Told.{Gave};
 ghost use Rattle.mqb_journal.specs.Causes.{FaultsAsSaid};
 ghost use Rattle.mqb_manager.specs.States.{IsOnDisk, IsUp, manager_of};
 ghost use Rattle.mqb_model.specs.managers.Readers.{phase_of};
 ghost use Rattle.mqb_serve.specs.Talking.{Keeps, stopped_hearing, stopped_pumping, stored_of};
 ghost use Rattle.mqb_serving.specs.Serving.{Hears, is_read_fault, is_write_fault};
-ghost use Rattle.mqb_serving.specs.Steps.{Converses, Goes, HearsFrame, HearsHeld, Itself, Listens, PumpsOnce, Stands, end_of};
+ghost use Rattle.mqb_serving.specs.Steps.{Converses, Goes, HearsFrame, HearsHeld, Itself, Listens};
+ghost use Rattle.mqb_serving.specs.Steps.{PumpsOnce, Stands, end_of};
 ghost use Rattle.mqb_serving.specs.declared.limits.TheConstants.{MAX_READ};
-ghost use Rattle.mqb_serving.specs.Conversations.{Conversation, answered, end_after, end_of_purpose, end_of_session, is_through, looked_at, no_bytes, pumped, read_on, sent_some};
+ghost use Rattle.mqb_serving.specs.Conversations.{Conversation, answered, end_after};
+ghost use Rattle.mqb_serving.specs.Conversations.{end_of_purpose, end_of_session, is_through};
+ghost use Rattle.mqb_serving.specs.Conversations.{looked_at, no_bytes, pumped, read_on, sent_some};
 ghost use Rattle.mqb_stream.specs.Framing.{fed, next, wants_more};
 ghost use Rattle.mqb_stream.specs.Histories.{part_of};
 
@@ -383,7 +387,8 @@ impl Talk {
         Ok(None)
     }
 
-    /// Reads a piece into the front of a buffer, and answers how long it is. None is longer than what may still come.
+    /// Reads a piece into the front of a buffer, and answers how long it is. None is longer than
+    /// what may still come.
     fn read<C: Conn>(&self, conn: &mut C, buffer: &mut [u8]) -> Result<usize, ConnFault>
         requires less { self.now.came < MAX_READ }
         requires room { 0 < length buffer.old }

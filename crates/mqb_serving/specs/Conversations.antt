@@ -1,6 +1,9 @@
--- One manager over one connection: it links and pumps until nothing goes, and hears each packet as soon as its last byte came, and pumps again.
+-- One manager over one connection: it links and pumps until nothing goes, and hears each packet as
+-- soon as its last byte came, and pumps again.
 use Rattle.std.specs.Option.{option_map_or, option_or}
-use Rattle.std.specs.Prelude.{[], ◌&&◌, ◌+◌, ◌++◌, ◌==◌, ◌∷◌, Bool, Err, List, None, Ok, Option, Result, Some, false, flat_map, fold, if◌then◌else◌, is_some, length, not, option_map, suc, unwrap_or, zero, ℕ}
+use Rattle.std.specs.Prelude.{[], ◌&&◌, ◌+◌, ◌++◌, ◌==◌, ◌∷◌, Bool, Err, List, None, Ok, Option}
+use Rattle.std.specs.Prelude.{Result, Some, false, flat_map, fold, if◌then◌else◌, is_some, length}
+use Rattle.std.specs.Prelude.{not, option_map, suc, unwrap_or, zero, ℕ}
 use Rattle.mqb_base.specs.declared.heard.Cause.{Cause}
 use Rattle.mqb_fields.specs.declared.faults.HeadFault.{HeadFault}
 use Rattle.mqb_heads.specs.declared.base.TheConstants.{MAX_PACKET}
@@ -45,15 +48,18 @@ pub record StoredManager : Type 0 where
 
 -- behind a call that went well, whose record stands behind the others, where it has one
 abbrev pub stored_after : {A : Type 0} → StoredManager → Outcome A → StoredManager
-stored_after m outcome = record { manager = succeeded m.manager outcome; count = m.count + option_map_or (λ _. 1) outcome.entry 0 }
+stored_after m outcome = record {
+  manager = succeeded m.manager outcome;
+  count = m.count + option_map_or (λ _. 1) outcome.entry 0;
+}
 
 -- its disk failed under this record, which is in doubt
 abbrev pub stored_under : StoredManager → Record → StoredManager
 stored_under m r = record m { manager = failed_under m.manager (Some r) }
 
--- What one end of a connection knows at one moment: what the connection is for and the moment of its calls, the
--- manager with its records, the packets that it gave, the framer of the bytes that came, and how the connection ended,
--- once it has.
+-- What one end of a connection knows at one moment: what the connection is for and the moment of
+-- its calls, the manager with its records, the packets that it gave, the framer of the bytes that
+-- came, and how the connection ended, once it has.
 pub record Conversation : Type 0 where
   pub purpose : Purpose
   pub now : ℕ
@@ -79,7 +85,8 @@ cause_in _ = None
 
 -- a session that closed ends the connection
 abbrev pub end_of_session : Option Phase → Option End
-end_of_session session = option_map_or (λ p. option_map (λ why. Err (fault.Closed why)) (cause_in p)) session None
+end_of_session session =
+    option_map_or (λ p. option_map (λ why. Err (fault.Closed why)) (cause_in p)) session None
 
 -- a push ends as soon as it is through; the others go on
 abbrev pub end_of_purpose : Purpose → Manager → Option End
@@ -101,7 +108,8 @@ sent_some (Err why) = false
 
 -- the packets of a pump are given
 abbrev pub gave : PumpOutcome → Conversation → Conversation
-gave outcome c = record c { stored = stored_after c.stored outcome; given = c.given ++ outcome.packets }
+gave outcome c =
+    record c { stored = stored_after c.stored outcome; given = c.given ++ outcome.packets }
 
 -- nothing more goes
 abbrev pub at_rest : Result ℕ PumpFault → Conversation → Conversation
@@ -111,7 +119,8 @@ at_rest answer c = record c { end = end_after answer c.purpose c.stored.manager 
 abbrev pub pumped : ℕ → Conversation → Conversation
 pumped zero c = c
 pumped (suc count) c = let outcome = pump c.stored.manager c.now in
-    if sent_some outcome.answer then pumped count (gave outcome c) else at_rest outcome.answer (gave outcome c)
+    if sent_some outcome.answer then pumped count (gave outcome c)
+    else at_rest outcome.answer (gave outcome c)
 
 -- What comes.
 
@@ -136,7 +145,8 @@ opened m asks now = pumped MAX_PUMPS (linked m asks now)
 
 -- it hears a packet, and pumps
 abbrev pub heard : Conversation → Packet → Conversation
-heard c p = pumped MAX_PUMPS (record c { stored = stored_after c.stored (hear c.stored.manager p c.now) })
+heard c p =
+    pumped MAX_PUMPS (record c { stored = stored_after c.stored (hear c.stored.manager p c.now) })
 
 -- what was read of a frame at a place is heard, or it is no packet
 abbrev pub heard_as : ℕ → Result PacketParts HeadFault → Conversation → Conversation
@@ -145,7 +155,8 @@ heard_as place (Err why) c = ended (Err (fault.Bad place why)) c
 
 -- the frame that waits is heard
 abbrev pub frame_heard : List ℕ → Conversation → Conversation
-frame_heard frame c = heard_as c.framing.place (packet_of frame) (record c { framing = advanced c.framing })
+frame_heard frame c =
+    heard_as c.framing.place (packet_of frame) (record c { framing = advanced c.framing })
 
 -- what the framer answers is done
 abbrev pub answered : Answer → Conversation → Conversation
@@ -159,7 +170,8 @@ count_read c = c.framing.place + length c.framing.held
 
 -- a connection that goes on has brought fewer bytes than the most
 abbrev pub limited : Conversation → Conversation
-limited c = if count_read c == MAX_READ then record c { end = option_or c.end (Some (Err fault.TooMuch)) } else c
+limited c = if count_read c == MAX_READ
+    then record c { end = option_or c.end (Some (Err fault.TooMuch)) } else c
 
 -- what is held is looked at
 abbrev pub looked_at : Conversation → Conversation
@@ -185,9 +197,11 @@ bytes_of packets = flat_map plain_spelling packets
 
 -- how it ends where no more bytes come: well where it is through and holds no part of a packet
 abbrev pub end_of_bytes : Conversation → End
-end_of_bytes c = if is_through c.stored.manager && length c.framing.held == 0 then Ok tt else Err fault.PeerClosed
+end_of_bytes c = if is_through c.stored.manager && length c.framing.held == 0 then Ok tt
+    else Err fault.PeerClosed
 
--- what a connection came to: the bytes that were written, the manager with its records, which is not linked any more, and the end
+-- what a connection came to: the bytes that were written, the manager with its records, which is
+-- not linked any more, and the end
 pub record Served : Type 0 where
   pub written : List ℕ
   pub stored : StoredManager

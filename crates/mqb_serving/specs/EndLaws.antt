@@ -10,7 +10,8 @@ use Rattle.mqb_serving.specs.Conversations.{Conversation, read_on}
 use Rattle.mqb_serving.specs.Serving.{Hears}
 use Rattle.mqb_serving.specs.Steps.{IsPast}
 
--- Whatever bytes were read, a manager is as behind some pumps from where pumping started, and so is what it gave.
+-- Whatever bytes were read, a manager is as behind some pumps from where pumping started,
+-- and so is what it gave.
 abbrev pub ReadIsPast : Type 0
 ReadIsPast = (c : Conversation) (bytes : List ℕ) → IsPast (Hears c bytes) c (read_on c bytes)
 

@@ -1,5 +1,6 @@
 -- Laws of connections.
-use Rattle.std.specs.Prelude.{[], ◌+◌, ◌++◌, ◌<◌, ◌≡◌, ◌≤◌, List, None, Some, fold, if◌then◌else◌, is_some, length, true, ℕ}
+use Rattle.std.specs.Prelude.{[], ◌+◌, ◌++◌, ◌<◌, ◌≡◌, ◌≤◌, List, None, Some, fold, if◌then◌else◌}
+use Rattle.std.specs.Prelude.{is_some, length, true, ℕ}
 use Rattle.std.specs.List.{AllByRecursion}
 use Rattle.mqb_heads.specs.declared.base.TheConstants.{MAX_PACKET}
 use Rattle.mqb_packet.specs.Plain.{IsWellFormedPacket, packet_size, plain_spelling}
@@ -10,12 +11,15 @@ use Rattle.mqb_stream.specs.Framing.{advanced, fed, next, wants_more}
 use Rattle.mqb_stream.specs.Histories.{part_of}
 use Rattle.mqb_serving.specs.declared.purpose.Purpose.{Purpose}
 use Rattle.mqb_model.specs.managers.Valid.{IsValidManager}
-use Rattle.mqb_serving.specs.Conversations.{Conversation, End, StoredManager, bytes_of, count_read, heard, holding, looked_at, opened, pumped, read_on, served}
+use Rattle.mqb_serving.specs.Conversations.{Conversation, End, StoredManager, bytes_of, count_read}
+use Rattle.mqb_serving.specs.Conversations.{heard, holding, looked_at, opened, pumped}
+use Rattle.mqb_serving.specs.Conversations.{read_on, served}
 use Rattle.mqb_serving.specs.declared.limits.TheConstants.{MAX_PUMPS, MAX_READ}
 
 -- The pieces in which bytes come do not matter.
 abbrev pub CuttingDoesNotMatter : Type 0
-CuttingDoesNotMatter = (c : Conversation) (pieces others : List (List ℕ)) → joined pieces ≡ joined others
+CuttingDoesNotMatter =
+    (c : Conversation) (pieces others : List (List ℕ)) → joined pieces ≡ joined others
     → fold read_on c pieces ≡ fold read_on c others
 
 -- bytes with which others begin
@@ -36,9 +40,11 @@ pub record GoesOn (c : Conversation) : Type 0 where
   pub end : c.end ≡ None
   pub wants : wants_more (next c.framing) ≡ true
 
--- Where a framer takes its part of a piece, that part is read, and then what is held is looked at once.
+-- Where a framer takes its part of a piece, that part is read, and then what is
+-- held is looked at once.
 abbrev pub PiecesFillPackets : Type 0
-PiecesFillPackets = (c : Conversation) (piece : List ℕ) → GoesOn c → 0 < length piece → count_read c + length piece ≤ MAX_READ
+PiecesFillPackets = (c : Conversation) (piece : List ℕ) → GoesOn c → 0 < length piece
+    → count_read c + length piece ≤ MAX_READ
     → read_on c (part_of c.framing piece) ≡ looked_at (record c { framing = fed c.framing piece })
 
 -- a packet that can be written, within the limit
@@ -62,9 +68,12 @@ pub record IsBetween (c : Conversation) : Type 0 where
 
 -- What is written for packets is heard as these packets.
 abbrev pub PacketsAreHeard : Type 0
-PacketsAreHeard = (c : Conversation) (packets : List Packet) → IsBetween c → AllByRecursion IsWritable packets
-    → count_read c + length (bytes_of packets) < MAX_READ → read_on c (bytes_of packets) ≡ fold packet_heard c packets
+PacketsAreHeard =
+    (c : Conversation) (packets : List Packet) → IsBetween c → AllByRecursion IsWritable packets
+    → count_read c + length (bytes_of packets) < MAX_READ
+    → read_on c (bytes_of packets) ≡ fold packet_heard c packets
 
 -- A valid manager that pumps comes to a pump that sends nothing: more pumps would change nothing.
 abbrev pub PumpsComeToRest : Type 0
-PumpsComeToRest = (c : Conversation) (more : ℕ) → IsValidManager c.stored.manager → pumped (MAX_PUMPS + more) c ≡ pumped MAX_PUMPS c
+PumpsComeToRest = (c : Conversation) (more : ℕ) → IsValidManager c.stored.manager
+    → pumped (MAX_PUMPS + more) c ≡ pumped MAX_PUMPS c

@@ -1,5 +1,7 @@
--- What serving a connection comes to: it ends as its definition does, or a fault cuts it short behind some of its pumps.
-use Rattle.std.specs.Prelude.{[], ◌++◌, ◌∷◌, ◌≡◌, ◌⊎◌, Bool, Err, IfSome, List, None, Ok, Option, Result, Some, false, true, ℕ}
+-- What serving a connection comes to: it ends as its definition does, or a fault cuts it short
+-- behind some of its pumps.
+use Rattle.std.specs.Prelude.{[], ◌++◌, ◌∷◌, ◌≡◌, ◌⊎◌, Bool, Err, IfSome, List, None, Ok, Option}
+use Rattle.std.specs.Prelude.{Result, Some, false, true, ℕ}
 use Rattle.mqb_outside.specs.Told.{Gave, Took}
 use Rattle.mqb_packet.specs.Spelled.{Spells}
 use Rattle.mqb_packet.specs.declared.packet.Packet.{Packet}
@@ -9,7 +11,9 @@ use Rattle.mqb_model.specs.calls.hear.Hear.{hear}
 use Rattle.mqb_model.specs.calls.pump.Pump.{pump}
 use Rattle.mqb_serving.specs.declared.purpose.Purpose.{Purpose}
 use Rattle.mqb_model.specs.records.Record.{Record}
-use Rattle.mqb_serving.specs.Conversations.{Conversation, End, Served, StoredManager, bytes_of, holding, linked, opened, pumped, read_on, served, stored_after, stored_under}
+use Rattle.mqb_serving.specs.Conversations.{Conversation, End, Served, StoredManager, bytes_of}
+use Rattle.mqb_serving.specs.Conversations.{holding, linked, opened, pumped, read_on, served}
+use Rattle.mqb_serving.specs.Conversations.{stored_after, stored_under}
 use Rattle.mqb_serving.specs.Laws.{Begins, passed}
 use Rattle.mqb_serving.specs.declared.faults.ConnFault.{ConnFault}
 use Rattle.mqb_serving.specs.declared.faults.ConnFault.TheVariants as fault
@@ -48,7 +52,8 @@ is_write_fault fault.Memory = false
 
 -- Where pumping starts.
 
--- The points at which pumping starts: behind a packet that this manager heard by this record, where there is one, or behind none.
+-- The points at which pumping starts: behind a packet that this manager heard by this record, where
+-- there is one, or behind none.
 abbrev pub Starting : Type 1
 Starting = StoredManager → Option Record → Conversation → Type 0
 
@@ -72,7 +77,8 @@ pub record Fills (c : Conversation) (byte : ℕ) (p : Packet) : Type 0 where
   pub spells : Spells p frame
 
 -- One of the bytes that come is the last of a packet, which is heard.
-pub record Hears (c : Conversation) (bytes : List ℕ) (by : StoredManager) (entry : Option Record) (from : Conversation) : Type 0 where
+pub record Hears (c : Conversation) (bytes : List ℕ) (by : StoredManager) (entry : Option Record)
+    (from : Conversation) : Type 0 where
   pub front : List ℕ
   pub byte : ℕ
   pub packet : Packet
@@ -84,31 +90,38 @@ pub record Hears (c : Conversation) (bytes : List ℕ) (by : StoredManager) (ent
 
 -- the manager was linked, or a packet was heard of the bytes that were read
 abbrev pub Starts : StoredManager → Purpose → ℕ → List ℕ → Starting
-Starts m asks now read by entry from = ((entry ≡ None) × (from ≡ linked m asks now)) ⊎ Hears (opened m asks now) read by entry from
+Starts m asks now read by entry from =
+    ((entry ≡ None) × (from ≡ linked m asks now)) ⊎ Hears (opened m asks now) read by entry from
 
 -- The record of the next call of a manager: of a pump at this moment, or of a packet that it hears.
 abbrev pub IsNext : Starting → StoredManager → ℕ → Record → Type 0
-IsNext starts m now r = ((pump m.manager now).entry ≡ Some r) ⊎ ((from : Conversation) × starts m (Some r) from)
+IsNext starts m now r =
+    ((pump m.manager now).entry ≡ Some r) ⊎ ((from : Conversation) × starts m (Some r) from)
 
 -- What a fault leaves.
 
--- A manager at one moment of a connection: behind so many pumps from where pumping started. What was written is a front of what it gave.
-pub record IsMoment (m : StoredManager) (asks : Purpose) (now : ℕ) (read written : List ℕ) (at : StoredManager) : Type 0 where
+-- A manager at one moment of a connection: behind so many pumps from where pumping started. What
+-- was written is a front of what it gave.
+pub record IsMoment (m : StoredManager) (asks : Purpose) (now : ℕ) (read written : List ℕ)
+    (at : StoredManager) : Type 0 where
   pub from : Conversation
   pub pumps : ℕ
   pub starts : IsStart (Starts m asks now read) from
   pub manager : at ≡ (pumped pumps from).stored
   pub begins : Begins written (bytes_of (pumped pumps from).given)
 
--- A fault of the connection or of memory cuts it short: the manager of that moment is not linked any more.
-pub record IsCutShort (m : StoredManager) (asks : Purpose) (now : ℕ) (read written : List ℕ) (n : StoredManager) : Type 0 where
+-- A fault of the connection or of memory cuts it short: the manager of that moment is
+-- not linked any more.
+pub record IsCutShort (m : StoredManager) (asks : Purpose) (now : ℕ) (read written : List ℕ)
+    (n : StoredManager) : Type 0 where
   pub at : StoredManager
   pub moment : IsMoment m asks now read written at
   pub left : n ≡ stored_after at (unlink at.manager)
 
--- The disk fails under the record of the next call of the manager of that moment: of a pump, or of a packet whose
--- last byte was read. It is down with that record in doubt, and no other.
-pub record IsDownAfter (m : StoredManager) (asks : Purpose) (now : ℕ) (read written : List ℕ) (n : StoredManager) : Type 0 where
+-- The disk fails under the record of the next call of the manager of that moment: of a pump, or of
+-- a packet whose last byte was read. It is down with that record in doubt, and no other.
+pub record IsDownAfter (m : StoredManager) (asks : Purpose) (now : ℕ) (read written : List ℕ)
+    (n : StoredManager) : Type 0 where
   pub at : StoredManager
   pub moment : IsMoment m asks now read written at
   pub doubt : Record
@@ -124,16 +137,20 @@ pub record IsServed (s : Served) (r : Answer) (written : List ℕ) (n : StoredMa
   pub end : answer_of s.end ≡ r
 
 -- how it ends, by what is answered
-abbrev pub EndsAs : Answer → StoredManager → Purpose → ℕ → (read written : List ℕ) → StoredManager → Type 0
+abbrev pub EndsAs : Answer → StoredManager → Purpose → ℕ → (read written : List ℕ) → StoredManager
+    → Type 0
 EndsAs (Ok done) m asks now read written n = IsServed (served m asks now read) (Ok done) written n
-EndsAs (Err (fault.Peer why)) m asks now read written n = IsServed (served m asks now read) (Err (fault.Peer why)) written n
+EndsAs (Err (fault.Peer why)) m asks now read written n =
+    IsServed (served m asks now read) (Err (fault.Peer why)) written n
 EndsAs (Err fault.ReadFault) m asks now read written n = IsCutShort m asks now read written n
 EndsAs (Err fault.WriteFault) m asks now read written n = IsCutShort m asks now read written n
 EndsAs (Err fault.Memory) m asks now read written n = IsCutShort m asks now read written n
 EndsAs (Err fault.DiskFault) m asks now read written n = IsDownAfter m asks now read written n
 
--- A manager serves a connection that held, and had taken, before and after: it reads what that gives and writes what that takes.
-pub record Serves (asks : Purpose) (now : ℕ) (m n : StoredManager) (held held_now taken taken_now : Option (List ℕ)) (r : Answer) : Type 0 where
+-- A manager serves a connection that held, and had taken, before and after: it reads what that
+-- gives and writes what that takes.
+pub record Serves (asks : Purpose) (now : ℕ) (m n : StoredManager)
+    (held held_now taken taken_now : Option (List ℕ)) (r : Answer) : Type 0 where
   pub read : List ℕ
   pub written : List ℕ
   pub gave : Gave held held_now read
@@ -141,14 +158,17 @@ pub record Serves (asks : Purpose) (now : ℕ) (m n : StoredManager) (held held_
   pub ends : EndsAs r m asks now read written n
 
 -- What is served is what all these bytes come to, also where not all were read.
-pub record ServesAll (asks : Purpose) (now : ℕ) (m n : StoredManager) (bytes : List ℕ) (taken taken_now : Option (List ℕ)) (r : Answer) : Type 0 where
+pub record ServesAll (asks : Purpose) (now : ℕ) (m n : StoredManager) (bytes : List ℕ)
+    (taken taken_now : Option (List ℕ)) (r : Answer) : Type 0 where
   pub written : List ℕ
   pub took : Took taken taken_now written
   pub served : IsServed (served m asks now bytes) r written n
 
 -- an end by the peer, or well: all that the connection held is served
-abbrev pub ServesWhole : Answer → Purpose → ℕ → StoredManager → StoredManager → (held taken taken_now : Option (List ℕ)) → Type 0
-ServesWhole (Ok done) asks now m n held taken taken_now = IfSome held (λ bytes. ServesAll asks now m n bytes taken taken_now (Ok done))
+abbrev pub ServesWhole : Answer → Purpose → ℕ → StoredManager → StoredManager
+    → (held taken taken_now : Option (List ℕ)) → Type 0
+ServesWhole (Ok done) asks now m n held taken taken_now =
+    IfSome held (λ bytes. ServesAll asks now m n bytes taken taken_now (Ok done))
 ServesWhole (Err (fault.Peer why)) asks now m n held taken taken_now =
     IfSome held (λ bytes. ServesAll asks now m n bytes taken taken_now (Err (fault.Peer why)))
 ServesWhole (Err fault.ReadFault) asks now m n held taken taken_now = Unit {0}

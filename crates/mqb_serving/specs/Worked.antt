@@ -1,5 +1,6 @@
 -- Small connections, worked out.
-use Rattle.std.specs.Prelude.{[], ◌∷◌, ◌≡◌, Err, List, None, Ok, Some, codes, drop, false, length, map, take, true, ℕ}
+use Rattle.std.specs.Prelude.{[], ◌∷◌, ◌≡◌, Err, List, None, Ok, Some, codes, drop, false, length}
+use Rattle.std.specs.Prelude.{map, take, true, ℕ}
 use Rattle.mqb_base.specs.declared.heads.SessionHead.{SessionHead}
 use Rattle.mqb_base.specs.declared.heard.Cause.TheVariants.{Early}
 use Rattle.mqb_base.specs.declared.ids.Identity.{Identity}
@@ -20,7 +21,8 @@ use Rattle.mqb_model.specs.managers.Manager.{Manager}
 use Rattle.mqb_model.specs.declared.limits.TheConstants.{FIRST_EXPRESS}
 use Rattle.mqb_model.specs.calls.Messages.{message_of}
 use Rattle.mqb_model.specs.runs.Runs.{one_commit}
-use Rattle.mqb_model.specs.runs.Samples.{alpha, beta, ids_of, manager_of, of_alpha, of_beta, orders, parts_of, plan, to_orders, with_queue_of}
+use Rattle.mqb_model.specs.runs.Samples.{alpha, beta, ids_of, manager_of, of_alpha, of_beta, orders}
+use Rattle.mqb_model.specs.runs.Samples.{parts_of, plan, to_orders, with_queue_of}
 use Rattle.mqb_serving.specs.Conversations.{Served, StoredManager, bytes_of, served, stored_after}
 use Rattle.mqb_serving.specs.declared.faults.PeerFault.TheVariants as fault
 use Rattle.mqb_serving.specs.declared.limits.TheConstants.{WINDOW}
@@ -47,7 +49,8 @@ asked bytes = served (two_records (manager_of alpha beta)) purpose.Serve 1000 by
 abbrev pub question : List Packet
 question = establish beta alpha 999 ∷ parameters ∷ []
 
--- Asked for a session and then left alone, it answers with the same two packets, and ends well. It writes no record.
+-- Asked for a session and then left alone, it answers with the same two packets, and ends well.
+-- It writes no record.
 pub record OneIsAsked : Type 0 where
   pub written : (asked (bytes_of question)).written ≡ bytes_of question
   pub count : length (bytes_of question) ≡ 604
@@ -90,16 +93,21 @@ pushing = stored_after (two_records (manager_of alpha beta)) one_commit
 
 -- beta has the queue
 abbrev pub receiving : StoredManager
-receiving = record { manager = with_queue_of (manager_of beta alpha) (plan (codes "orders") true 100 false); count = 3 }
+receiving = record {
+  manager = with_queue_of (manager_of beta alpha) (plan (codes "orders") true 100 false);
+  count = 3;
+}
 
 -- the header of its last packet, and of beta's
 abbrev pub last_ack : SessionHead
-last_ack = record { ack = 1; stored = 0; stored_flags = 0; user = 1; recoverable = 0; window = WINDOW }
+last_ack =
+    record { ack = 1; stored = 0; stored_flags = 0; user = 1; recoverable = 0; window = WINDOW }
 
 -- the packet that carries the message
 abbrev pub order : Packet
 order = packet.User (record {
-  message = message_of (of_alpha 1) Transactional 0 1000 (parts_of orders UNLIMITED 0 (codes "one"));
+  message =
+      message_of (of_alpha 1) Transactional 0 1000 (parts_of orders UNLIMITED 0 (codes "one"));
   to = beta.guid;
   remaining = UNLIMITED;
   tx = Some (record { sequence = (to_orders 1).sequence; number = 1; previous = 0 });
@@ -109,7 +117,9 @@ order = packet.User (record {
 -- and the one that acknowledges it
 abbrev pub order_ack : Packet
 order_ack = packet.User (record {
-  message = order_acknowledgement (record { sequence = (to_orders 1).sequence; number = 1 }) alpha.host (of_beta FIRST_EXPRESS) 1003;
+  message =
+      order_acknowledgement (record { sequence = (to_orders 1).sequence; number = 1 }) alpha.host
+      (of_beta FIRST_EXPRESS) 1003;
   to = alpha.guid;
   remaining = UNLIMITED;
   tx = None;
@@ -132,14 +142,16 @@ pushed = served pushing (purpose.Reach errand.Push 0) 1001 (bytes_of from_beta)
 abbrev pub received : Served
 received = served receiving purpose.Serve 1003 (bytes_of from_alpha)
 
--- Each writes what the other reads, both end well, the message is in beta's queue, and alpha keeps it no more. That is
--- one record of beta, and two of alpha: that it offered the message, and that beta has it.
+-- Each writes what the other reads, both end well, the message is in beta's queue, and alpha
+-- keeps it no more. That is one record of beta, and two of alpha: that it offered the message,
+-- and that beta has it.
 pub record OneIsPushed : Type 0 where
   pub asks : pushed.written ≡ bytes_of from_alpha
   pub pushes : pushed.end ≡ Ok tt
   pub answers : received.written ≡ bytes_of from_beta
   pub serves : received.end ≡ Ok tt
-  pub put : map (λ q. ids_of q.lists.durable) received.stored.manager.state.places.queues ≡ (of_alpha 1 ∷ []) ∷ []
+  pub put : map (λ q. ids_of q.lists.durable) received.stored.manager.state.places.queues
+      ≡ (of_alpha 1 ∷ []) ∷ []
   pub left : map (λ row. numbers row.kept) pushed.stored.manager.state.outs ≡ [] ∷ []
   pub one_record : received.stored.count ≡ 4
   pub two_records : pushed.stored.count ≡ 5

@@ -5,7 +5,8 @@ pub fn read_is_past()
     ensures { ReadIsPast }
 {}
 
-/// What the definitions answer to a pump and to a packet is never want of memory or a fault of the disk.
+/// What the definitions answer to a pump and to a packet is never want of memory or
+/// a fault of the disk.
 pub fn answers_are_no_faults()
     ensures { AnswersAreNoFaults }
 {}

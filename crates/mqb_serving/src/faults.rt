@@ -2,7 +2,8 @@ use mqb_base::Cause;
 use mqb_fields::HeadFault;
 use thiserror::Error;
 
-/// What a peer did that ended a connection badly. `place` is that of a packet's first byte among those that came.
+/// What a peer did that ended a connection badly. `place` is that of a packet's first byte
+/// among those that came.
 #[derive(Clone, Copy, Debug, PartialEq, Eq, Error)]
 pub enum PeerFault {
     #[error("the peer ended the connection too soon")]
@@ -17,7 +18,8 @@ pub enum PeerFault {
     TooMuch,
 }
 
-/// Why a connection ended badly. After `DiskFault` the manager is down; after all others it is not linked.
+/// Why a connection ended badly. After `DiskFault` the manager is down; after all
+/// others it is not linked.
 #[derive(Clone, Copy, Debug, PartialEq, Eq, Error)]
 pub enum ConnFault {
     #[error("{0}")]

@@ -1,4 +1,5 @@
-ghost use Rattle.mqb_serving.specs.Laws.{CuttingDoesNotMatter, EndsLast, PacketsAreHeard, PiecesFillPackets, PrefixesWritePrefixes, PumpsComeToRest};
+ghost use Rattle.mqb_serving.specs.Laws.{CuttingDoesNotMatter, EndsLast, PacketsAreHeard};
+ghost use Rattle.mqb_serving.specs.Laws.{PiecesFillPackets, PrefixesWritePrefixes, PumpsComeToRest};
 
 use mqb_model::calls_keep_valid;
 
@@ -17,7 +18,8 @@ pub fn ends_last()
     ensures { EndsLast }
 {}
 
-/// Where a framer takes its part of a piece, that part is read, and then what is held is looked at once.
+/// Where a framer takes its part of a piece, that part is read, and then what is
+/// held is looked at once.
 pub fn pieces_fill_packets()
     ensures { PiecesFillPackets }
 {}

@@ -1,7 +1,9 @@
-//! What one manager does over one connection, and what a fault leaves that cuts it short: definitions, the types of answers, and laws of them.
+//! What one manager does over one connection, and what a fault leaves that cuts it short:
+//! definitions, the types of answers, and laws of them.
 //!
-//! Each function stands for a law or a worked run: its contract is the statement, and its body is empty. `Conversations` of the definitions has what is
-//! written for what comes, `Serving` what serving a connection comes to.
+//! Each function stands for a law or a worked run: its contract is the statement, and its body is
+//! empty. `Conversations` of the definitions has what is written for what comes, `Serving` what
+//! serving a connection comes to.
 #![tactic(auto)]
 
 mod ends;

@@ -6,7 +6,8 @@ use mqb_model::Role;
 /// What a peer is reached for.
 #[derive(Clone, Copy, Debug, PartialEq, Eq)]
 pub enum Errand {
-    /// It is to take what waits for it: the connection ends as soon as nothing for it is outstanding.
+    /// It is to take what waits for it: the connection ends as soon as nothing
+    /// for it is outstanding.
     Push,
     /// It is to give what waits at it, too: the connection ends where no more bytes come.
     Fetch,

@@ -1,4 +1,5 @@
-ghost use Rattle.mqb_serving.specs.Worked.{OneIsAsked, OneIsBad, OneIsCutOff, OneIsEarly, OneIsPushed};
+ghost use Rattle.mqb_serving.specs.Worked.{OneIsAsked, OneIsBad, OneIsCutOff};
+ghost use Rattle.mqb_serving.specs.Worked.{OneIsEarly, OneIsPushed};
 
 /// A manager that is asked for a session and then left alone answers, and ends well.
 pub fn one_is_asked()

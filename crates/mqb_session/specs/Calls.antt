@@ -54,7 +54,8 @@ IsSettingUp Ready = ⊥
 IsSettingUp (Closed cause) = ⊥
 IsSettingUp _ = Unit {0}
 
--- At most as many user packets as the peer's window are sent and not acknowledged. Before the session is ready none is sent.
+-- At most as many user packets as the peer's window are sent and not acknowledged. Before the
+-- session is ready none is sent.
 pub record IsWithinWindow (s : State) : Type 0 where
   pub outstanding : s.sent ≤ s.acked + s.peer_window
   pub first : IsSettingUp s.phase → s.sent ≡ 0

@@ -1,12 +1,14 @@
--- The phase table: for each phase the packet that it owes, the phase that follows once that packet was sent, and the phases that follow an
--- Establish and Parameters that are heard.
+-- The phase table: for each phase the packet that it owes, the phase that follows once that packet
+-- was sent, and the phases that follow an Establish and Parameters that are heard.
 use Rattle.std.specs.Prelude.{ℕ, Bool, true, false, Option, Some, None}
 use Rattle.mqb_base.specs.declared.heard.Cause.TheVariants.{Early, Refused, Repeated}
 use Rattle.mqb_setup.specs.declared.internal.Parameters.{Parameters}
 use Rattle.mqb_setup.specs.declared.internal.Internal.{Internal}
 use Rattle.mqb_setup.specs.declared.internal.Internal.TheVariants as part
 use Rattle.mqb_session.specs.declared.phase.Phase.{Phase}
-use Rattle.mqb_session.specs.declared.phase.Phase.TheVariants.{Start, WaitEstablish, OweEstablish, OweRefusal, OweParameters, WaitParameters, Ready, Closed}
+use Rattle.mqb_session.specs.declared.phase.Phase.TheVariants.{Start, WaitEstablish, OweEstablish}
+use Rattle.mqb_session.specs.declared.phase.Phase.TheVariants.{OweRefusal, OweParameters}
+use Rattle.mqb_session.specs.declared.phase.Phase.TheVariants.{WaitParameters, Ready, Closed}
 use Rattle.mqb_session.specs.declared.phase.Role.{Role}
 use Rattle.mqb_session.specs.declared.phase.Role.TheVariants.{Initiator, Acceptor}
 use Rattle.mqb_session.specs.State.{State}

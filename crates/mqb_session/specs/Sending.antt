@@ -34,7 +34,14 @@ numbered Ack s = s
 
 -- the header that tells what was got, and the numbers that were taken last
 abbrev pub head_of : State → SessionHead
-head_of s = record { ack = s.got; stored = s.stored; stored_flags = 0; user = s.sent; recoverable = s.recoverable_sent; window = s.window }
+head_of s = record {
+  ack = s.got;
+  stored = s.stored;
+  stored_flags = 0;
+  user = s.sent;
+  recoverable = s.recoverable_sent;
+  window = s.window;
+}
 
 -- nothing is owed once it was told
 abbrev pub stamped : Kind → State → SessionHead × State

@@ -7,8 +7,9 @@ use Rattle.mqb_session.specs.declared.phase.Phase.TheVariants.{Start, WaitEstabl
 use Rattle.mqb_session.specs.declared.phase.Role.{Role}
 use Rattle.mqb_session.specs.declared.phase.Role.TheVariants.{Initiator, Acceptor}
 
--- One end of a session. The Establish is the one that the initiator sends or the acceptor heard. Of user packets, and among them of recoverable
--- ones, so many were sent, and acknowledged; so many were got in order, and of recoverable ones stored. An acknowledgement is owed or not.
+-- One end of a session. The Establish is the one that the initiator sends or the acceptor heard. Of
+-- user packets, and among them of recoverable ones, so many were sent, and acknowledged; so many
+-- were got in order, and of recoverable ones stored. An acknowledgement is owed or not.
 pub record State : Type 0 where
   pub phase : Phase
   pub role : Role
@@ -59,12 +60,15 @@ new_session phase role own peer establish window = record {
 
 -- an Establish of a client to a server
 abbrev pub asking : Guid → Guid → ℕ → Establish
-asking client server stamp = record { client = client; server = server; stamp = stamp; refused = false }
+asking client server stamp =
+    record { client = client; server = server; stamp = stamp; refused = false }
 
 -- it asks its peer: the moment of its Establish is not known yet
 abbrev pub new_initiator : Guid → Guid → ℕ → State
-new_initiator own peer window = new_session Start Initiator own (Some peer) (asking own peer 0) window
+new_initiator own peer window =
+    new_session Start Initiator own (Some peer) (asking own peer 0) window
 
 -- it waits for an Establish, and has none yet
 abbrev pub new_acceptor : Guid → ℕ → State
-new_acceptor own window = new_session WaitEstablish Acceptor own None (asking no_guid no_guid 0) window
+new_acceptor own window =
+    new_session WaitEstablish Acceptor own None (asking no_guid no_guid 0) window

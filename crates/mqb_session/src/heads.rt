@@ -3,7 +3,8 @@ use mqb_base::Cause;
 /// What a packet that is sent with a session header carries.
 #[derive(Clone, Copy, Debug, PartialEq, Eq)]
 pub enum Kind {
-    /// A user packet without a number of its own among the recoverable ones: an express or transactional message.
+    /// A user packet without a number of its own among the recoverable ones: an express or
+    /// transactional message.
     Plain,
     /// A user packet of a recoverable message.
     Recoverable,

@@ -8,9 +8,11 @@ ghost use Rattle.mqb_session.specs.State.{State, new_acceptor, new_initiator};
 ghost use Rattle.mqb_session.specs.Phases.{owed_by};
 ghost use Rattle.mqb_session.specs.Hearing.{heard_head};
 ghost use Rattle.mqb_session.specs.Sending.{may_send};
-ghost use Rattle.mqb_session.specs.Calls.{Call, AreAllowed, IsWithinWindow, after, after_all, from, heads_of, recoverable_heads, user_heads};
+ghost use Rattle.mqb_session.specs.Calls.{Call, AreAllowed, IsWithinWindow, after, after_all, from};
+ghost use Rattle.mqb_session.specs.Calls.{heads_of, recoverable_heads, user_heads};
 
-/// A closed session stays closed by its cause, whatever is called. It hears each header with that cause, owes no packet and sends no user packet.
+/// A closed session stays closed by its cause, whatever is called. It hears each header with that
+/// cause, owes no packet and sends no user packet.
 pub fn closed_stays()
     ensures closed { (calls : List Call) (cause : Cause) (s : State) → s.phase ≡ Closed cause →
         (after_all calls s).phase ≡ Closed cause }
@@ -21,7 +23,8 @@ pub fn closed_stays()
     ensures sends_none { (cause : Cause) (s : State) → s.phase ≡ Closed cause → may_send s ≡ false }
 {}
 
-/// Never are more user packets sent and not acknowledged than the peer's window, from a new session on. Once the session is ready, that window stays.
+/// Never are more user packets sent and not acknowledged than the peer's window, from a new session
+/// on. Once the session is ready, that window stays.
 pub fn window_is_kept()
     ensures initiator { (own peer : Guid) (window : ℕ) →
         IsWithinWindow (new_initiator own peer window) }
@@ -32,7 +35,8 @@ pub fn window_is_kept()
         (after call s).peer_window ≡ s.peer_window }
 {}
 
-/// Each user packet has the next number, and so has each recoverable one among its like. So no number comes twice.
+/// Each user packet has the next number, and so has each recoverable one among its like. So
+/// no number comes twice.
 pub fn numbers_rise()
     ensures user { (calls : List Call) (s : State) →
         let heads = heads_of user_heads calls s in

@@ -1,7 +1,8 @@
 //! One end of a session between two managers.
 //!
-//! `Phases` has the phase table of the set-up: which packet a phase owes, and what follows. `Hearing` says what a packet that is heard leaves, and
-//! `Sending` which numbers a packet that is sent takes. A session that is closed stays closed, and keeps its cause.
+//! `Phases` has the phase table of the set-up: which packet a phase owes, and what follows.
+//! `Hearing` says what a packet that is heard leaves, and `Sending` which numbers a packet that is
+//! sent takes. A session that is closed stays closed, and keeps its cause.
 #![tactic(auto)]
 
 mod heads;

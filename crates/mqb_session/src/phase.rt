@@ -1,5 +1,6 @@
 ghost use Rattle.std.specs.Prelude.{◌≡◌};
-ghost use Rattle.mqb_session.specs.Phases.{phase_after_establish, phase_after_owed, phase_after_parameters};
+ghost use Rattle.mqb_session.specs.Phases.{phase_after_establish, phase_after_owed};
+ghost use Rattle.mqb_session.specs.Phases.{phase_after_parameters};
 ghost use Rattle.mqb_session.specs.Hearing.{closed_by};
 
 use mqb_base::Cause;

@@ -1,7 +1,8 @@
 ghost use Rattle.std.specs.Prelude.{◌≡◌, ◌<◌, IsTrue, IsFalse};
 ghost use Rattle.mqb_session.specs.State.{IsKept, new_acceptor, new_initiator, new_session};
 ghost use Rattle.mqb_session.specs.Phases.{owed_by, own_parameters};
-ghost use Rattle.mqb_session.specs.Hearing.{after_owed, heard_head, is_wanted, on_close, on_establish, on_parameters};
+ghost use Rattle.mqb_session.specs.Hearing.{after_owed, heard_head, is_wanted, on_close};
+ghost use Rattle.mqb_session.specs.Hearing.{on_establish, on_parameters};
 ghost use Rattle.mqb_session.specs.Hearing.{acknowledged, closing, counted, is_bad_ack, order_of};
 ghost use Rattle.mqb_session.specs.Sending.{is_spent, may_go, may_send, noted_stored, stamped};
 
@@ -37,7 +38,8 @@ fn own_parameters(window: u16) -> Parameters
     }
 }
 
-/// One end of a session. It numbers the packets that are sent, and counts what is got, stored and acknowledged.
+/// One end of a session. It numbers the packets that are sent, and counts what is got,
+/// stored and acknowledged.
 #[derive(Clone, Copy, Debug)]
 pub struct Session {
     phase: Phase,
@@ -100,7 +102,8 @@ impl Session {
         }
     }
 
-    /// The end that asks `peer` for a session. `window` is how many user packets may come to it that it did not acknowledge.
+    /// The end that asks `peer` for a session. `window` is how many user packets may come to it
+    /// that it did not acknowledge.
     pub fn initiator(own: Guid, peer: Guid, window: u16) -> Session
         ensures { result ≡ new_initiator own peer window }
     {
@@ -120,7 +123,8 @@ impl Session {
         )
     }
 
-    /// The end that is asked. `window` is how many user packets may come to it that it did not acknowledge.
+    /// The end that is asked. `window` is how many user packets may come to it that it
+    /// did not acknowledge.
     pub fn acceptor(own: Guid, window: u16) -> Session
         ensures { result ≡ new_acceptor own window }
     {
@@ -245,8 +249,8 @@ impl Session {
         HeadHeard::Closed(cause)
     }
 
-    /// Hears the session header of a packet. That of a session acknowledgement is to be given with the user number 0, since it repeats the
-    /// last one that its sender used.
+    /// Hears the session header of a packet. That of a session acknowledgement is to be given with
+    /// the user number 0, since it repeats the last one that its sender used.
     pub fn hear_head(&mut self, h: &SessionHead) -> HeadHeard
         ensures heard { result ≡ (heard_head h.now self.old).0 }
         ensures left { self.new ≡ (heard_head h.now self.old).1 }

@@ -1,5 +1,6 @@
 -- The internal header of a packet, and the part of its type.
-use Rattle.std.specs.Prelude.{ℕ, ◌+◌, ◌/◌, ◌%◌, ◌==◌, Bool, List, ◌++◌, replicate, Result, Ok, if◌then◌else◌}
+use Rattle.std.specs.Prelude.{ℕ, ◌+◌, ◌/◌, ◌%◌, ◌==◌, Bool, List, ◌++◌, replicate, Result}
+use Rattle.std.specs.Prelude.{Ok, if◌then◌else◌}
 use Rattle.mqb_fields.specs.declared.faults.HeadFault.{HeadFault}
 use Rattle.mqb_fields.specs.declared.faults.HeadKind.TheVariants.{Kind}
 use Rattle.mqb_fields.specs.Faults.{fault_at, in_packet}
@@ -29,7 +30,15 @@ establish_at refused r = do
   stamp ← field_at 4 server.1
   reserved ← skipped 4 stamp.1
   filler ← skipped 512 reserved
-  Ok (record { client = record { 0 = client.0 }; server = record { 0 = server.0 }; stamp = stamp.0; refused = refused }, filler)
+  Ok (
+    record {
+      client = record { 0 = client.0 };
+      server = record { 0 = server.0 };
+      stamp = stamp.0;
+      refused = refused;
+    },
+    filler,
+  )
 
 unfoldable pub parameters_at : Reading → Result (Parameters × Reading) HeadFault
 parameters_at r = do
@@ -72,10 +81,12 @@ unfoldable pub filler : List ℕ
 filler = replicate 512 0x5A
 
 abbrev pub plain_establish : Establish → List ℕ
-plain_establish e = swapped e.client.0 ++ swapped e.server.0 ++ bytes_of 4 e.stamp ++ bytes_of 4 0 ++ filler
+plain_establish e =
+    swapped e.client.0 ++ swapped e.server.0 ++ bytes_of 4 e.stamp ++ bytes_of 4 0 ++ filler
 
 abbrev pub plain_parameters : Parameters → List ℕ
-plain_parameters p = bytes_of 4 p.storage_time ++ bytes_of 4 p.ack_time ++ bytes_of 2 0 ++ bytes_of 2 p.window
+plain_parameters p =
+    bytes_of 4 p.storage_time ++ bytes_of 4 p.ack_time ++ bytes_of 2 0 ++ bytes_of 2 p.window
 
 -- the flags of a part: its type, and bit 4 where it is refused
 abbrev pub flags_of : Internal → ℕ

@@ -15,7 +15,17 @@ session_at r = do
   recoverable ← field_at 2 user.1
   window ← field_at 2 recoverable.1
   end ← skipped 2 window.1
-  Ok (record { ack = ack.0; stored = stored.0; stored_flags = stored_flags.0; user = user.0; recoverable = recoverable.0; window = window.0 }, end)
+  Ok (
+    record {
+      ack = ack.0;
+      stored = stored.0;
+      stored_flags = stored_flags.0;
+      user = user.0;
+      recoverable = recoverable.0;
+      window = window.0;
+    },
+    end,
+  )
 
 abbrev pub plain_session : SessionHead → List ℕ
 plain_session h = bytes_of 2 h.ack ++ bytes_of 2 h.stored ++ bytes_of 4 h.stored_flags

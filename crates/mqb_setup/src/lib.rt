@@ -1,7 +1,8 @@
-//! The headers with which two managers set up a session and acknowledge: the session header, and the internal header with its part.
+//! The headers with which two managers set up a session and acknowledge: the session header, and
+//! the internal header with its part.
 //!
-//! Each reader gives what a chain of the functions of its fields gives, and each writer puts the plain spelling. What is put is read again,
-//! whatever follows it.
+//! Each reader gives what a chain of the functions of its fields gives, and each writer puts the
+//! plain spelling. What is put is read again, whatever follows it.
 #![tactic(auto)]
 
 mod internal;

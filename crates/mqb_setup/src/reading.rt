@@ -1,6 +1,7 @@
 ghost use Rattle.std.specs.Prelude.{◌≡◌, OnErr};
 ghost use Rattle.mqb_fields.specs.Reading.{Reads};
-ghost use Rattle.mqb_setup.specs.Internals.{ack_from, establish_at, establish_from, internal_at, parameters_at, parameters_from};
+ghost use Rattle.mqb_setup.specs.Internals.{ack_from, establish_at, establish_from, internal_at};
+ghost use Rattle.mqb_setup.specs.Internals.{parameters_at, parameters_from};
 ghost use Rattle.mqb_setup.specs.Sessions.{session_at};
 
 use crate::internal::{Establish, Internal, Parameters};
@@ -88,8 +89,8 @@ fn parameters_part(cursor: &mut Cursor<'_>) -> Result<Internal, HeadFault>
     Ok(Internal::Parameters(read_parameters(cursor)?))
 }
 
-/// Reads an internal header of 4 bytes and the part of its type: 16 bytes of an acknowledgement, 552 of an Establish, 12 of Parameters. After a fault
-/// the cursor is where it was.
+/// Reads an internal header of 4 bytes and the part of its type: 16 bytes of an acknowledgement,
+/// 552 of an Establish, 12 of Parameters. After a fault the cursor is where it was.
 #[tactic(auto, unfolding(crate::specs::Internals::internal_at))]
 pub fn read_internal(cursor: &mut Cursor<'_>) -> Result<Internal, HeadFault>
     ensures read { Reads internal_at cursor.old cursor.new result }

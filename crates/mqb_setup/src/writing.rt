@@ -1,6 +1,7 @@
 ghost use Rattle.std.specs.Prelude.{◌≡◌, ◌≤◌, length};
 ghost use Rattle.mqb_fields.specs.Writing.{put_at};
-ghost use Rattle.mqb_setup.specs.Internals.{flags_of, plain_establish, plain_internal, plain_parameters, plain_part};
+ghost use Rattle.mqb_setup.specs.Internals.{flags_of, plain_establish, plain_internal};
+ghost use Rattle.mqb_setup.specs.Internals.{plain_parameters, plain_part};
 ghost use Rattle.mqb_setup.specs.Sessions.{plain_session};
 
 use crate::internal::{Establish, Internal, Parameters};
@@ -72,8 +73,8 @@ fn flags_of(part: &Internal) -> u16
     }
 }
 
-/// Writes an internal header and its part at the start, and tells how many bytes they have: 20 for an acknowledgement, 556 for an Establish, 16
-/// for Parameters.
+/// Writes an internal header and its part at the start, and tells how many bytes they have: 20 for
+/// an acknowledgement, 556 for an Establish, 16 for Parameters.
 pub fn put_internal(part: &Internal, to: &mut [u8]) -> usize
     requires room { length (plain_internal part.now) ≤ length to.old }
     ensures put { to.new ≡ put_at to.old 0 (plain_internal part.now) }

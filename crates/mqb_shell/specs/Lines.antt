@@ -1,7 +1,8 @@
 -- The lines of a text, what each asks, and the line that ends its answer.
 use Rattle.std.specs.Fmt.{decimal}
 use Rattle.std.specs.List.{AllByRecursion, flat_map}
-use Rattle.std.specs.Prelude.{[], ◌++◌, ◌≡◌, ◌≢◌, ◌∷◌, All, Err, List, Result, codes, if◌then◌else◌, length, nat_le, ok_or, ℕ}
+use Rattle.std.specs.Prelude.{[], ◌++◌, ◌≡◌, ◌≢◌, ◌∷◌, All, Err, List, Result, codes, if◌then◌else◌}
+use Rattle.std.specs.Prelude.{length, nat_le, ok_or, ℕ}
 use Rattle.mqb_commands.specs.Exits.{exit_of}
 use Rattle.mqb_commands.specs.declared.status.Status.{Status}
 use Rattle.mqb_commands.specs.declared.status.Status.TheVariants as status
@@ -24,7 +25,8 @@ pub record IsCut (text : List ℕ) (lines : List (List ℕ)) (rest : List ℕ) :
 
 -- What a line asks of a manager that is open, or the fault that it is.
 abbrev pub asked_in : List ℕ → Result Command Status
-asked_in line = if nat_le (length line) MAX_LINE then ok_or (command_in line) status.Usage else Err status.TooLong
+asked_in line = if nat_le (length line) MAX_LINE then ok_or (command_in line) status.Usage
+    else Err status.TooLong
 
 -- the line that ends an answer
 abbrev pub end_line : Status → List ℕ

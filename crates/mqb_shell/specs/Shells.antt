@@ -17,7 +17,8 @@ use Rattle.mqb_shell.specs.Answered.{Answered, Answers, IsUnasked, StopsAt, line
 use Rattle.mqb_shell.specs.Lines.{IsCut, IsOneLine}
 use Rattle.mqb_shell.specs.Standing.{Standing}
 
--- Why no more is read behind what was read, where that ends with no line feed: the input failed, or it ended within a line, or there was too much of it.
+-- Why no more is read behind what was read, where that ends with no line feed: the input failed, or
+-- it ended within a line, or there was too much of it.
 abbrev pub EndsReading : (read rest : List ℕ) → (left : Option (List ℕ)) → Status → Type 0
 EndsReading read rest left status.ReadFault = Unit {0}
 EndsReading read rest left (status.Peer peer.PeerClosed) = (rest ≢ []) × IsAtEnd left
@@ -27,22 +28,30 @@ EndsReading read rest left _ = ⊥
 -- The end of an input behind these bytes of a line, or a front of what is said of them.
 abbrev pub EndsInput : (rest : List ℕ) → (before after : Option (List ℕ)) → Status → Type 0
 EndsInput [] before after r = (r ≡ status.Done) × (after ≡ before)
-EndsInput (byte ∷ bytes) before after r = Says (IsFaultLine (status.Peer peer.PeerClosed)) before after r
+EndsInput (byte ∷ bytes) before after r =
+    Says (IsFaultLine (status.Peer peer.PeerClosed)) before after r
 
 -- It ends so, and says why, or a front of that.
-abbrev pub TellsReading : (read rest : List ℕ) → (left before after : Option (List ℕ)) → Status → Type 0
-TellsReading read rest left before after status.WriteFault = (why : Status) × EndsReading read rest left why × TookFront before after (fault_text why)
-TellsReading read rest left before after r = EndsReading read rest left r × Took before after (fault_text r)
+abbrev pub TellsReading : (read rest : List ℕ) → (left before after : Option (List ℕ)) → Status
+    → Type 0
+TellsReading read rest left before after status.WriteFault =
+    (why : Status) × EndsReading read rest left why × TookFront before after (fault_text why)
+TellsReading read rest left before after r =
+    EndsReading read rest left r × Took before after (fault_text r)
 
 -- How a shell ends behind the lines that it answered, by what was read behind them.
-abbrev pub EndsBehind : (steady : Option ℕ) → (read rest : List ℕ) → (left : Option (List ℕ)) → (b a : Standing) → (before after : Option (List ℕ)) → Status → Type 0
-EndsBehind steady read rest left b a before after status.Done = (rest ≡ []) × IsAtEnd left × (a ≡ b) × (after ≡ before)
+abbrev pub EndsBehind : (steady : Option ℕ) → (read rest : List ℕ) → (left : Option (List ℕ))
+    → (b a : Standing) → (before after : Option (List ℕ)) → Status → Type 0
+EndsBehind steady read rest left b a before after status.Done =
+    (rest ≡ []) × IsAtEnd left × (a ≡ b) × (after ≡ before)
 EndsBehind steady read rest left b a before after r = StopsAt rest steady b a before after r
     ⊎ IsUnasked b a before after r
     ⊎ (IsOneLine rest × TellsReading read rest left before after r × (a ≡ b))
 
--- From what an input held and an output had taken before to behind it: the lines that were read are answered, up to the one with which the shell ended.
-pub record Shell (steady : Option ℕ) (held left before after : Option (List ℕ)) (b a : Standing) (r : Status) : Type 0 where
+-- From what an input held and an output had taken before to behind it: the lines that were read are
+-- answered, up to the one with which the shell ended.
+pub record Shell (steady : Option ℕ) (held left before after : Option (List ℕ)) (b a : Standing)
+    (r : Status) : Type 0 where
   pub read : List ℕ
   pub gave : Gave held left read
   -- the lines whose answers were written whole, and what was read behind them
@@ -55,7 +64,8 @@ pub record Shell (steady : Option ℕ) (held left before after : Option (List �
   pub answers : Answers steady b before done mid told
   pub ends : EndsBehind steady read rest left mid a told after r
 
--- what is told of a manager that was opened and of what it works with, where the disk's faults and the clock's askings are counted
+-- what is told of a manager that was opened and of what it works with, where the disk's faults and
+-- the clock's askings are counted
 abbrev pub standing : ManagerState → (disk_faults asked : ℕ) → Nets → Standing
 standing m disk_faults asked net = record {
   manager = m;
@@ -79,22 +89,29 @@ standing_now m disk_faults asked net = record {
   idle = net.idle_now;
 }
 
--- A shell of the manager to which a store opens. While that is up, no crash leaves anything but what it is.
-pub record ShellOn (steady : Option ℕ) (d e : View) (held left before after : Option (List ℕ)) (asked asked_now : ℕ) (net : Nets) (r : Status) (m n : ManagerState) : Type 0 where
-  pub shell : Shell steady held left before after (standing m d.faults asked net) (standing_now n e.faults asked_now net) r
+-- A shell of the manager to which a store opens. While that is up, no crash leaves
+-- anything but what it is.
+pub record ShellOn (steady : Option ℕ) (d e : View) (held left before after : Option (List ℕ))
+    (asked asked_now : ℕ) (net : Nets) (r : Status) (m n : ManagerState) : Type 0 where
+  pub shell : Shell steady held left before after (standing m d.faults asked net)
+      (standing_now n e.faults asked_now net) r
   pub settled : IsUp n → IsSettled e
 
--- The store was not opened: its fault line is said, nothing is read, and the net and the clock are left as they were.
-pub record IsClosed (d e : View) (held left before after : Option (List ℕ)) (asked asked_now : ℕ) (net : Nets) (r : Status) : Type 0 where
+-- The store was not opened: its fault line is said, nothing is read, and the net and the clock
+-- are left as they were.
+pub record IsClosed (d e : View) (held left before after : Option (List ℕ)) (asked asked_now : ℕ)
+    (net : Nets) (r : Status) : Type 0 where
   pub fails : Says (FailsToOpen d e) before after r
   pub unread : left ≡ held
   pub never : asked_now ≡ asked
   pub untouched : IsUntouched net
 
 -- `shell`
-abbrev pub ShellsStore : (steady : Option ℕ) → (d e : View) → (held left before after : Option (List ℕ)) → (asked asked_now : ℕ) → Nets → Status → Type 0
+abbrev pub ShellsStore : (steady : Option ℕ) → (d e : View)
+    → (held left before after : Option (List ℕ)) → (asked asked_now : ℕ) → Nets → Status → Type 0
 ShellsStore steady d e held left before after asked asked_now net r =
-    OnStore (ShellOn steady d e held left before after asked asked_now net r) d e ⊎ IsClosed d e held left before after asked asked_now net r
+    OnStore (ShellOn steady d e held left before after asked asked_now net r) d e
+    ⊎ IsClosed d e held left before after asked asked_now net r
 
 -- a shell ends so, and never with the end of a line that it goes on behind
 abbrev pub IsShellEnd : Status → Type 0

@@ -4,7 +4,8 @@ use Rattle.mqb_connections.specs.Served.{Nets}
 use Rattle.mqb_manager.specs.States.{ManagerState}
 use Rattle.mqb_outside.specs.Net.{Ended}
 
--- the manager, how often its disk has failed and the clock was asked, and what its net tells; what the disk stands for is told by the manager
+-- the manager, how often its disk has failed and the clock was asked, and what its net tells; what
+-- the disk stands for is told by the manager
 pub record Standing : Type 0 where
   pub manager : ManagerState
   pub disk_faults : ℕ

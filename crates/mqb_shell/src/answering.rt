@@ -1,4 +1,5 @@
-//! Lines are answered: what each asks is done and said, and the end of the answer is written behind it.
+//! Lines are answered: what each asks is done and said, and the end of the answer
+//! is written behind it.
 ghost use Rattle.std.specs.Prelude.{◌≡◌, ◌≢◌, Err, IfErr, None, OnOk, Ok};
 ghost use Rattle.mqb_commands.specs.Causes.{DiskFaultHasCause};
 ghost use Rattle.mqb_commands.specs.Outputs.{GoesOn, WriteFaultHasCause};

@@ -1,7 +1,8 @@
-//! A manager that stays open: lines of an input ask it for commands, and each answer is written before more is read.
+//! A manager that stays open: lines of an input ask it for commands, and each answer is written
+//! before more is read.
 //!
-//! Of the definitions, `Lines` has what a line asks, `Doing` what a manager that is open does by a command, `Answered` what lines come to one after another, and
-//! `Shells` how all that ends.
+//! Of the definitions, `Lines` has what a line asks, `Doing` what a manager that is open does by a
+//! command, `Answered` what lines come to one after another, and `Shells` how all that ends.
 #![tactic(auto)]
 
 mod answering;

@@ -1,6 +1,7 @@
 ghost use Rattle.std.specs.Prelude.{◌≡◌, None};
 ghost use Rattle.mqb_commands.specs.Causes.{DiskFaultHasCause};
-ghost use Rattle.mqb_commands.specs.Outputs.{IsFaultLine, ReadFaultHasCause, Says, WriteFaultHasCause};
+ghost use Rattle.mqb_commands.specs.Outputs.{IsFaultLine, ReadFaultHasCause};
+ghost use Rattle.mqb_commands.specs.Outputs.{Says, WriteFaultHasCause};
 ghost use Rattle.mqb_manager.specs.Keeping.{KeepsDisk};
 ghost use Rattle.mqb_manager.specs.States.{IsOnDisk, IsUp};
 ghost use Rattle.mqb_shell.specs.Ends.{IsReadingEnd};

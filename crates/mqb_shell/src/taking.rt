@@ -1,5 +1,6 @@
 //! Bytes are taken, and the lines that end in them are answered.
-ghost use Rattle.std.specs.Prelude.{◌+◌, ◌++◌, ◌<◌, ◌==◌, ◌≡◌, ◌≢◌, ◌≤◌, IfErr, IfOk, List, None, OnOk, length, position, take, ℕ};
+ghost use Rattle.std.specs.Prelude.{◌+◌, ◌++◌, ◌<◌, ◌==◌, ◌≡◌, ◌≢◌, ◌≤◌, IfErr, IfOk, List, None};
+ghost use Rattle.std.specs.Prelude.{OnOk, length, position, take, ℕ};
 ghost use Rattle.mqb_commands.specs.Causes.{DiskFaultHasCause};
 ghost use Rattle.mqb_commands.specs.Outputs.{WriteFaultHasCause};
 ghost use Rattle.mqb_manager.specs.Keeping.{KeepsDisk};
@@ -34,7 +35,8 @@ fn line_feed(piece: &[u8]) -> Option<usize>
     piece.iter().position(|byte| *byte == b'\n')
 }
 
-/// Takes the bytes of a piece up to its first line feed, and answers the line that ends there; without one it takes all. It says how many it took.
+/// Takes the bytes of a piece up to its first line feed, and answers the line that ends there;
+/// without one it takes all. It says how many it took.
 fn take_front<K: Sink, D: Disk, N: PatientNet, C: Clock>(
     alloc: Global,
     piece: &[u8],
@@ -101,7 +103,8 @@ fn take_front<K: Sink, D: Disk, N: PatientNet, C: Clock>(
     }
 }
 
-/// Takes a piece of the input: the lines that end in it are answered, and what is behind the last line feed is held.
+/// Takes a piece of the input: the lines that end in it are answered, and what is behind the
+/// last line feed is held.
 pub(crate) fn take_piece<K: Sink, D: Disk, N: PatientNet, C: Clock>(
     alloc: Global,
     piece: &[u8],

@@ -1,6 +1,8 @@
 -- The fields of a state, each with what it must be beside the parts before it.
 use Rattle.std.specs.List.{list_any}
-use Rattle.std.specs.Prelude.{◌&&◌, ◌==◌, ◌||◌, Bool, Err, List, None, Ok, Option, Result, Some, false, if◌then◌else◌, is_none, is_some, nat_le, not, option_and_then, true, ℕ}
+use Rattle.std.specs.Prelude.{◌&&◌, ◌==◌, ◌||◌, Bool, Err, List, None, Ok, Option, Result, Some}
+use Rattle.std.specs.Prelude.{false, if◌then◌else◌, is_none, is_some, nat_le, not, option_and_then}
+use Rattle.std.specs.Prelude.{true, ℕ}
 use Rattle.mqb_base.specs.Same.{same_guid, same_ignoring_case}
 use Rattle.mqb_base.specs.declared.ids.Guid.{Guid}
 use Rattle.mqb_base.specs.declared.message.Delivery.{Delivery}
@@ -25,7 +27,8 @@ use Rattle.mqb_snapshot.specs.declared.messages.TheConstants.{NOBODY}
 
 -- some manager that is known has a host
 abbrev pub host_known : State → List ℕ → Bool
-host_known s host = same_ignoring_case s.identity.host host || list_any (λ peer. same_ignoring_case peer.host host) s.peers
+host_known s host = same_ignoring_case s.identity.host host
+    || list_any (λ peer. same_ignoring_case peer.host host) s.peers
 
 -- some manager that is known has a GUID
 abbrev pub guid_known : State → Guid → Bool
@@ -59,7 +62,8 @@ queue_guid_at s r = tested (λ guid. not (guid_registered s guid)) guid_at r
 unfoldable pub registered_at : State → Reading → Result (Option Guid × Reading) EntryFault
 registered_at s r = do
   flag ← flag_at r
-  if flag.0 then (queue_guid_at s flag.1 >>= λ guid. Ok (Some guid.0, guid.1)) else Ok (None, flag.1)
+  if flag.0 then (queue_guid_at s flag.1 >>= λ guid. Ok (Some guid.0, guid.1))
+      else Ok (None, flag.1)
 
 -- a number within limits
 unfoldable pub within_at : ℕ → ℕ → Reading → Result (ℕ × Reading) EntryFault
@@ -67,7 +71,8 @@ within_at least most r = tested (λ n. nat_le least n && nat_le n most) u32_at r
 
 -- a packet in which a store has a message
 abbrev pub is_stored : UserPacket → Bool
-is_stored p = (is_recoverable p.message.delivery && is_none p.tx) && (is_none p.session && same_guid p.to NOBODY)
+is_stored p = (is_recoverable p.message.delivery && is_none p.tx)
+    && (is_none p.session && same_guid p.to NOBODY)
 
 -- how its message travels
 abbrev pub durably : Bool → Delivery
@@ -76,7 +81,8 @@ durably false = delivery.Recoverable
 
 -- the message of a packet in which a store has one
 abbrev pub message_of : Bool → UserPacket → Option Message
-message_of transactional p = if is_stored p then Some (record p.message { delivery = durably transactional }) else None
+message_of transactional p =
+    if is_stored p then Some (record p.message { delivery = durably transactional }) else None
 
 -- the message that a store has in the bytes of a packet
 abbrev pub stored_in : Bool → List ℕ → Option Message
@@ -97,7 +103,8 @@ message_at beside transactional r = do
 
 -- a message of the manager, with a number that no other one has
 abbrev pub is_own : Parts → Message → Bool
-is_own p m = same_guid m.id.qm p.state.identity.guid && not (list_any (λ n. m.id.number == n) p.numbers)
+is_own p m =
+    same_guid m.id.qm p.state.identity.guid && not (list_any (λ n. m.id.number == n) p.numbers)
 
 -- a packet in which a store has such a message
 unfoldable pub own_at : Parts → Headers → Bool → Reading → Result (Message × Reading) EntryFault
@@ -109,7 +116,8 @@ name_behind r behind kind len = do
   part ← field r (part_at len behind)
   found_in r part.1 (spelled kind part.0)
 
-abbrev pub name_in : Reading → Reading → ℕ → Result ℕ WireFault → Result (QueueName × Reading) EntryFault
+abbrev pub name_in : Reading → Reading → ℕ → Result ℕ WireFault
+    → Result (QueueName × Reading) EntryFault
 name_in r behind kind (Ok len) = name_behind r behind kind len
 name_in r behind kind (Err fault) = outside r
 

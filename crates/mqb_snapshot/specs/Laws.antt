@@ -9,4 +9,5 @@ use Rattle.mqb_snapshot.specs.Values.{IsState}
 
 -- The bytes of a valid state are read as what a store of it stands for.
 abbrev pub SnapshotsAreReadBack : Type 0
-SnapshotsAreReadBack = (s : State) → IsValidState s → IsState s → state_of (snapshot s) ≡ Ok (durable s)
+SnapshotsAreReadBack =
+    (s : State) → IsValidState s → IsState s → state_of (snapshot s) ≡ Ok (durable s)

@@ -1,5 +1,6 @@
 -- The parts of a state that were read, one after the other.
-use Rattle.std.specs.Prelude.{Bool, List, None, Ok, Option, Result, Some, if◌then◌else◌, suc, zero, ℕ}
+use Rattle.std.specs.Prelude.{Bool, List, None, Ok, Option, Result, Some, if◌then◌else◌, suc}
+use Rattle.std.specs.Prelude.{zero, ℕ}
 use Rattle.mqb_entries.specs.Fields.{outside, u32_at}
 use Rattle.mqb_entries.specs.declared.faults.EntryFault.{EntryFault}
 use Rattle.mqb_fields.specs.Reading.{◌>>=◌, Reading}
@@ -11,7 +12,8 @@ pub record Parts : Type 0 where
   pub numbers : List ℕ
 
 -- what stands here, if it passes a test
-abbrev pub tested : {X : Type 0} → (X → Bool) → (Reading → Result (X × Reading) EntryFault) → Reading → Result (X × Reading) EntryFault
+abbrev pub tested : {X : Type 0} → (X → Bool) → (Reading → Result (X × Reading) EntryFault)
+    → Reading → Result (X × Reading) EntryFault
 tested passes read r = do
   x ← read r
   if passes x.0 then Ok x else outside r
@@ -22,20 +24,23 @@ found_in r after (Some x) = Ok (x, after)
 found_in r after None = outside r
 
 -- a part is read, and joins those before it, so many times
-abbrev pub joined : ℕ → (Parts → Reading → Result (Parts × Reading) EntryFault) → Parts → Reading → Result (Parts × Reading) EntryFault
+abbrev pub joined : ℕ → (Parts → Reading → Result (Parts × Reading) EntryFault) → Parts → Reading
+    → Result (Parts × Reading) EntryFault
 joined zero part p r = Ok (p, r)
 joined (suc count) part p r = do
   x ← part p r
   joined count part x.0 x.1
 
 -- parts behind their count join those before them
-abbrev pub list_joined : (Parts → Reading → Result (Parts × Reading) EntryFault) → Parts → Reading → Result (Parts × Reading) EntryFault
+abbrev pub list_joined : (Parts → Reading → Result (Parts × Reading) EntryFault) → Parts → Reading
+    → Result (Parts × Reading) EntryFault
 list_joined part p r = do
   count ← u32_at r
   joined count.0 part p count.1
 
 -- a part for each index from one on
-abbrev pub each_joined : ℕ → ℕ → (ℕ → Parts → Reading → Result (Parts × Reading) EntryFault) → Parts → Reading → Result (Parts × Reading) EntryFault
+abbrev pub each_joined : ℕ → ℕ → (ℕ → Parts → Reading → Result (Parts × Reading) EntryFault) → Parts
+    → Reading → Result (Parts × Reading) EntryFault
 each_joined zero k part p r = Ok (p, r)
 each_joined (suc count) k part p r = do
   x ← part k p r

@@ -1,7 +1,9 @@
 -- The state that bytes are: their grammar, and the first field outside it.
 use Rattle.std.specs.List.{list_all}
 use Rattle.std.specs.Option.{option_map_or}
-use Rattle.std.specs.Prelude.{[], ◌&&◌, ◌++◌, ◌+◌, ◌-◌, ◌==◌, ◌∷◌, Bool, List, Ok, Result, if◌then◌else◌, false, is_none, length, nat_le, nat_lt, not, position, slice_get, true, ℕ}
+use Rattle.std.specs.Prelude.{[], ◌&&◌, ◌++◌, ◌+◌, ◌-◌, ◌==◌, ◌∷◌, Bool, List, Ok, Result}
+use Rattle.std.specs.Prelude.{if◌then◌else◌, false, is_none, length, nat_le, nat_lt, not, position}
+use Rattle.std.specs.Prelude.{slice_get, true, ℕ}
 use Rattle.mqb_base.specs.declared.ids.Identity.{Identity}
 use Rattle.mqb_base.specs.declared.message.Lane.TheVariants.{Durable}
 use Rattle.mqb_base.specs.declared.queues.EntryPlace.{EntryPlace}
@@ -17,12 +19,14 @@ use Rattle.mqb_orders.specs.declared.rows.InRow.{InRow}
 use Rattle.mqb_packet.specs.declared.packet.Headers.TheVariants.{Bare, Session, TxAndSession}
 use Rattle.mqb_plain.specs.Plain.{pushed}
 use Rattle.mqb_model.specs.Lists.{with_changed}
-use Rattle.mqb_model.specs.declared.limits.TheConstants.{MAX_NUMBER, MAX_ORDINAL, MAX_PEERS, MAX_QUEUES, MAX_ROLL}
+use Rattle.mqb_model.specs.declared.limits.TheConstants.{MAX_NUMBER, MAX_ORDINAL, MAX_PEERS}
+use Rattle.mqb_model.specs.declared.limits.TheConstants.{MAX_QUEUES, MAX_ROLL}
 use Rattle.mqb_model.specs.records.Peer.{with_new_queue, with_peer}
 use Rattle.mqb_model.specs.state.Places.{put_at, with_plain}
 use Rattle.mqb_model.specs.state.Rows.{is_row_of}
 use Rattle.mqb_model.specs.state.State.{State, empty}
-use Rattle.mqb_snapshot.specs.Fields.{destination_at, host_at, message_at, own_at, peer_guid_at, queue_name_at, registered_at, within_at}
+use Rattle.mqb_snapshot.specs.Fields.{destination_at, host_at, message_at, own_at, peer_guid_at}
+use Rattle.mqb_snapshot.specs.Fields.{queue_name_at, registered_at, within_at}
 use Rattle.mqb_snapshot.specs.Parts.{Parts, each_joined, joined, list_joined, tested}
 
 unfoldable pub identity_at : Reading → Result (Identity × Reading) EntryFault
@@ -58,7 +62,16 @@ plan_at s r = do
   transactional ← flag_at public.1
   quota ← u32_at transactional.1
   journal ← flag_at quota.1
-  Ok (record { name = name.0; public = public.0; transactional = transactional.0; quota = quota.0; journal = journal.0 }, journal.1)
+  Ok (
+    record {
+      name = name.0;
+      public = public.0;
+      transactional = transactional.0;
+      quota = quota.0;
+      journal = journal.0;
+    },
+    journal.1,
+  )
 
 unfoldable pub queue_joined : Parts → Reading → Result (Parts × Reading) EntryFault
 queue_joined p r = do
@@ -99,7 +112,13 @@ unfoldable pub plain_joined : ℕ → Parts → Reading → Result (Parts × Rea
 plain_joined k p r = do
   transactional ← tested not flag_at r
   message ← own_at p Session false transactional.1
-  Ok (record p { state = with_plain (pushed Durable message.0) p.state k; numbers = p.numbers ++ message.0.id.number ∷ [] }, message.1)
+  Ok (
+    record p {
+      state = with_plain (pushed Durable message.0) p.state k;
+      numbers = p.numbers ++ message.0.id.number ∷ [];
+    },
+    message.1,
+  )
 
 -- the messages for the peer at an index
 unfoldable pub waiting_joined : ℕ → Parts → Reading → Result (Parts × Reading) EntryFault
@@ -107,7 +126,8 @@ waiting_joined k p r = list_joined (plain_joined k) p r
 
 -- the ordinal of the last row, or 0
 abbrev pub last_ordinal : State → ℕ
-last_ordinal s = option_map_or (λ row. row.sequence.ordinal) (slice_get s.outs (length s.outs - 1)) 0
+last_ordinal s =
+    option_map_or (λ row. row.sequence.ordinal) (slice_get s.outs (length s.outs - 1)) 0
 
 -- the last number of kept messages, or 0
 abbrev pub last_number : List Kept → ℕ
@@ -115,7 +135,9 @@ last_number kept = option_map_or (λ k. k.number) (slice_get kept (length kept -
 
 -- a number that the row at an index can keep next
 abbrev pub may_keep : State → ℕ → ℕ → Bool
-may_keep s k number = option_map_or (λ row. nat_lt (last_number row.kept) number && nat_le number row.committed) (slice_get s.outs k) false
+may_keep s k number =
+    option_map_or (λ row. nat_lt (last_number row.kept) number && nat_le number row.committed)
+    (slice_get s.outs k) false
 
 -- the head of a row: one that follows the others
 unfoldable pub head_at : State → Reading → Result (Row × Reading) EntryFault
@@ -170,13 +192,15 @@ kept_joined k p r = do
 unfoldable pub row_joined : Parts → Reading → Result (Parts × Reading) EntryFault
 row_joined p r = do
   head ← head_at p.state r
-  list_joined (kept_joined (length p.state.outs)) (record p { state = with_row p.state head.0 }) head.1
+  list_joined (kept_joined (length p.state.outs))
+      (record p { state = with_row p.state head.0 }) head.1
 
 -- an incoming row of a source and a destination that no other one has
 unfoldable pub source_at : State → Reading → Result (InRow × Reading) EntryFault
 source_at s r = do
   source ← guid_at r
-  destination ← tested (λ name. is_none (position (is_row_of source.0 name) s.ins)) destination_at source.1
+  destination ← tested
+      (λ name. is_none (position (is_row_of source.0 name) s.ins)) destination_at source.1
   ordinal ← u32_at destination.1
   stamp ← u32_at ordinal.1
   last ← u32_at stamp.1
@@ -197,7 +221,8 @@ source_joined p r = do
 
 -- a next number above all numbers
 abbrev pub is_next : List ℕ → ℕ → Bool
-is_next numbers next = (nat_le 1 next && nat_le next (MAX_NUMBER + 1)) && list_all (λ n. nat_lt n next) numbers
+is_next numbers next =
+    (nat_le 1 next && nat_le next (MAX_NUMBER + 1)) && list_all (λ n. nat_lt n next) numbers
 
 -- a next ordinal above the last row's
 abbrev pub is_next_ordinal : State → ℕ → Bool
@@ -209,7 +234,12 @@ counters_joined p r = do
   number ← tested (is_next p.numbers) u32_at r
   ordinal ← tested (is_next_ordinal p.state) u32_at number.1
   roll ← within_at 1 MAX_ROLL ordinal.1
-  Ok (record p { state = record p.state { next_number = number.0; next_ordinal = ordinal.0; roll = roll.0 } }, roll.1)
+  Ok (
+    record p {
+      state = record p.state { next_number = number.0; next_ordinal = ordinal.0; roll = roll.0 };
+    },
+    roll.1,
+  )
 
 -- the parts behind the identity
 unfoldable pub parts_joined : Parts → Reading → Result (Parts × Reading) EntryFault

@@ -13,7 +13,8 @@ pub record AreSized (p : Places) : Type 0 where
   pub dead_xact : All IsSized p.dead_xact.durable
   pub journal : All IsSized p.journal.durable
 
--- Each message fits a packet, and the destinations of rows name queues: only such names have a wire form.
+-- Each message fits a packet, and the destinations of rows name queues: only such
+-- names have a wire form.
 pub record IsSpellable (s : State) : Type 0 where
   pub places : AreSized s.places
   pub plain : All (λ p. All IsSized (messages_of p.recoverable)) s.plain

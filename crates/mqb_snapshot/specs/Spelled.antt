@@ -6,7 +6,8 @@ use Rattle.mqb_base.specs.declared.message.Delivery.TheVariants as delivery
 use Rattle.mqb_base.specs.declared.message.Message.{Message}
 use Rattle.mqb_base.specs.declared.queue_names.QueueName.{QueueName}
 use Rattle.mqb_base.specs.declared.queues.QueuePlan.{QueuePlan}
-use Rattle.mqb_entries.specs.Spelled.{spelled_flag, spelled_guid, spelled_name, spelled_packet, spelled_public}
+use Rattle.mqb_entries.specs.Spelled.{spelled_flag, spelled_guid, spelled_name}
+use Rattle.mqb_entries.specs.Spelled.{spelled_packet, spelled_public}
 use Rattle.mqb_fate.specs.Asking.{is_transactional}
 use Rattle.mqb_fields.specs.Writing.{bytes_of}
 use Rattle.mqb_heads.specs.declared.base.TheConstants.{MAX_PACKET}
@@ -30,9 +31,16 @@ word number = bytes_of 4 number
 abbrev pub counted : {X : Type 0} → (X → List ℕ) → List X → List ℕ
 counted spell xs = word (length xs) ++ flat_map spell xs
 
--- the packet in which a store has a message: it is for no manager, and has the recoverable bit and no further headers
+-- the packet in which a store has a message: it is for no manager, and has the recoverable bit
+-- and no further headers
 abbrev pub stored : Message → UserPacket
-stored m = record { message = record m { delivery = delivery.Recoverable }; to = NOBODY; remaining = m.reach; tx = None; session = None }
+stored m = record {
+  message = record m { delivery = delivery.Recoverable };
+  to = NOBODY;
+  remaining = m.reach;
+  tx = None;
+  session = None;
+}
 
 -- what the user header of that packet says
 abbrev pub header_of : Message → Message
@@ -45,7 +53,8 @@ pub record IsSized (m : Message) : Type 0 where
 
 -- a message: whether it is transactional, and its packet
 abbrev pub spelled_message : Message → List ℕ
-spelled_message m = spelled_flag (is_transactional m.delivery) ++ spelled_packet (plain_user_packet (stored m))
+spelled_message m =
+    spelled_flag (is_transactional m.delivery) ++ spelled_packet (plain_user_packet (stored m))
 
 -- messages behind their count
 abbrev pub spelled_messages : List Message → List ℕ
@@ -55,7 +64,8 @@ abbrev pub spelled_identity : Identity → List ℕ
 spelled_identity m = spelled_name m.host ++ spelled_guid m.guid ++ m.address
 
 abbrev pub spelled_plan : QueuePlan → List ℕ
-spelled_plan q = spelled_name q.name ++ spelled_public q.public ++ spelled_flag q.transactional ++ word q.quota ++ spelled_flag q.journal
+spelled_plan q = spelled_name q.name ++ spelled_public q.public ++ spelled_flag q.transactional
+    ++ word q.quota ++ spelled_flag q.journal
 
 -- what a queue holds, and what its journal holds
 abbrev pub spelled_queue : Queue → List ℕ
@@ -63,7 +73,8 @@ spelled_queue q = spelled_messages q.lists.durable ++ spelled_messages q.journal
 
 -- what all places hold
 abbrev pub spelled_places : Places → List ℕ
-spelled_places p = flat_map spelled_queue p.queues ++ spelled_messages p.dead.durable ++ spelled_messages p.dead_xact.durable ++ spelled_messages p.journal.durable
+spelled_places p = flat_map spelled_queue p.queues ++ spelled_messages p.dead.durable
+    ++ spelled_messages p.dead_xact.durable ++ spelled_messages p.journal.durable
 
 -- the recoverable messages for a peer
 abbrev pub spelled_plain : PlainLists → List ℕ
@@ -77,8 +88,10 @@ abbrev pub spelled_kept : Kept → List ℕ
 spelled_kept k = word k.number ++ spelled_message k.message
 
 abbrev pub spelled_out : Row → List ℕ
-spelled_out row = word row.peer ++ spelled_destination row.destination ++ word row.sequence.ordinal ++ word row.sequence.stamp
+spelled_out row = word row.peer ++ spelled_destination row.destination ++ word row.sequence.ordinal
+    ++ word row.sequence.stamp
     ++ word row.committed ++ word row.offered ++ word row.acked ++ counted spelled_kept row.kept
 
 abbrev pub spelled_in : InRow → List ℕ
-spelled_in row = spelled_guid row.source ++ spelled_destination row.destination ++ word row.sequence.ordinal ++ word row.sequence.stamp ++ word row.last
+spelled_in row = spelled_guid row.source ++ spelled_destination row.destination
+    ++ word row.sequence.ordinal ++ word row.sequence.stamp ++ word row.last

@@ -1,4 +1,5 @@
--- What holds of each state that a program has: its numbers fit their types, its names are names, and its lists are counted in four bytes.
+-- What holds of each state that a program has: its numbers fit their types, its names are names,
+-- and its lists are counted in four bytes.
 use Rattle.std.specs.Prelude.{◌<◌, ◌^◌, All, IfSome, List, length}
 use Rattle.mqb_base.specs.declared.ids.Identity.{Identity}
 use Rattle.mqb_base.specs.declared.message.Message.{Message}

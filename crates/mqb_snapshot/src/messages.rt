@@ -7,7 +7,8 @@ ghost use Rattle.mqb_heads.specs.User.{plain_user};
 ghost use Rattle.mqb_packet.specs.Plain.{base_for, message_size, plain_user_packet};
 ghost use Rattle.mqb_packet.specs.declared.packet.Headers.TheVariants.{Bare};
 ghost use Rattle.mqb_snapshot.specs.declared.messages.TheConstants.{NOBODY};
-ghost use Rattle.mqb_snapshot.specs.Spelled.{IsSized, header_of, spelled_message, spelled_messages, stored};
+ghost use Rattle.mqb_snapshot.specs.Spelled.{IsSized, header_of, spelled_message};
+ghost use Rattle.mqb_snapshot.specs.Spelled.{spelled_messages, stored};
 ghost use Rattle.mqb_snapshot.specs.Values.{AreHeld, IsHeld};
 
 use crate::tail::Tail;
@@ -56,7 +57,8 @@ fn no_texts(alloc: Global) -> Result<(Units, Bytes, Bytes), Memory>
     ))
 }
 
-/// The message whose user header a store has: a recoverable one. Its label, extension and body stand elsewhere.
+/// The message whose user header a store has: a recoverable one. Its label, extension and
+/// body stand elsewhere.
 fn header_of(alloc: Global, message: &Message) -> Result<Message, Memory>
     ensures { IfOk result (λ header. header ≡ header_of message.now) }
 {

@@ -2,7 +2,8 @@ ghost use Rattle.std.specs.Prelude.{◌≡◌, ◌≤◌, ◌++◌, All, IsTrue,
 ghost use Rattle.mqb_base.specs.QueueNames.{names_queue};
 ghost use Rattle.mqb_base.specs.declared.roomed.TheConstants.{MAX_MEMBERS};
 ghost use Rattle.mqb_orders.specs.Rows.{row_of};
-ghost use Rattle.mqb_snapshot.specs.Spelled.{IsSized, counted, spelled_identity, spelled_in, spelled_kept, spelled_out, spelled_plan};
+ghost use Rattle.mqb_snapshot.specs.Spelled.{IsSized, counted, spelled_identity, spelled_in};
+ghost use Rattle.mqb_snapshot.specs.Spelled.{spelled_kept, spelled_out, spelled_plan};
 ghost use Rattle.mqb_snapshot.specs.Values.{IsCounted, IsHeld, IsIdentity, IsIn, IsOut, IsPlan};
 
 use crate::tail::Tail;

@@ -1,6 +1,7 @@
 ghost use Rattle.std.specs.Prelude.{◌≡◌, ◌++◌, IsTrue, OnErr, OnOk};
 ghost use Rattle.mqb_base.specs.QueueNames.{names_queue};
-ghost use Rattle.mqb_entries.specs.Spelled.{spelled_flag, spelled_guid, spelled_name, spelled_public};
+ghost use Rattle.mqb_entries.specs.Spelled.{spelled_flag, spelled_guid};
+ghost use Rattle.mqb_entries.specs.Spelled.{spelled_name, spelled_public};
 ghost use Rattle.mqb_fields.specs.Writing.{bytes_of};
 ghost use Rattle.mqb_names.specs.Wire.{kind_of, wire};
 ghost use Rattle.mqb_snapshot.specs.Spelled.{spelled_destination, word};

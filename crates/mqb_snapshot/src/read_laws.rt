@@ -1,4 +1,5 @@
-ghost use Rattle.mqb_snapshot.specs.ReadLaws.{ReadStatesAreDurable, ReadStatesAreSpelled, ReadStatesAreValid, ReadStatesFit};
+ghost use Rattle.mqb_snapshot.specs.ReadLaws.{ReadStatesAreDurable, ReadStatesAreSpelled};
+ghost use Rattle.mqb_snapshot.specs.ReadLaws.{ReadStatesAreValid, ReadStatesFit};
 
 /// What bytes are read as is valid.
 pub fn read_states_are_valid()
@@ -10,7 +11,8 @@ pub fn read_states_fit()
     ensures { ReadStatesFit }
 {}
 
-/// It has nothing beside what a store of it stands for: no express message, and no mark of a connection.
+/// It has nothing beside what a store of it stands for: no express message, and no
+/// mark of a connection.
 pub fn read_states_are_durable()
     ensures { ReadStatesAreDurable }
 {}

@@ -1,4 +1,5 @@
-ghost use Rattle.std.specs.Prelude.{◌≡◌, ◌≤◌, ◌<◌, ◌++◌, All, IsSomeAnd, IsTrue, OnErr, OnOk, length, map, slice_get};
+ghost use Rattle.std.specs.Prelude.{◌≡◌, ◌≤◌, ◌<◌, ◌++◌, All, IsSomeAnd, IsTrue, OnErr, OnOk};
+ghost use Rattle.std.specs.Prelude.{length, map, slice_get};
 ghost use Rattle.std.specs.List.{flat_map};
 ghost use Rattle.mqb_base.specs.QueueNames.{names_queue};
 ghost use Rattle.mqb_base.specs.declared.roomed.TheConstants.{MAX_MEMBERS};
@@ -8,7 +9,9 @@ ghost use Rattle.mqb_plain.specs.Lists.{messages_of};
 ghost use Rattle.mqb_queue.specs.Places.{lists_at};
 ghost use Rattle.mqb_snapshot.specs.Snapshot.{snapshot, spelled_counters};
 ghost use Rattle.mqb_snapshot.specs.Spellable.{AreSized, IsSpellable};
-ghost use Rattle.mqb_snapshot.specs.Spelled.{IsSized, counted, spelled_in, spelled_messages, spelled_out, spelled_places, spelled_plain, spelled_plan, spelled_queue};
+ghost use Rattle.mqb_snapshot.specs.Spelled.{IsSized, counted, spelled_in, spelled_messages};
+ghost use Rattle.mqb_snapshot.specs.Spelled.{spelled_out, spelled_places, spelled_plain};
+ghost use Rattle.mqb_snapshot.specs.Spelled.{spelled_plan, spelled_queue};
 ghost use Rattle.mqb_snapshot.specs.Values.{AreHeld, IsIn, IsOut, IsPlan, IsState};
 
 use crate::tail::Tail;

@@ -3,7 +3,8 @@ ghost use Rattle.std.specs.Prelude.{◌≡◌, ◌<◌, ◌++◌, ◌^◌, [], l
 use mqb_base::Memory;
 use std::marker::Model;
 
-/// Bytes that are added to a list, and can be taken back. Contracts see what stood before, and what was added.
+/// Bytes that are added to a list, and can be taken back. Contracts see what stood
+/// before, and what was added.
 #[derive(Debug, Drop)]
 pub(crate) struct Tail {
     pub(crate) bytes: Vec<u8>,
@@ -16,7 +17,8 @@ impl Model for Tail {
 
     ghost Value = { Added };
 
-    ghost view = { λ t. record { front = take t.start t.bytes.items; text = drop t.start t.bytes.items } };
+    ghost view = { λ t.
+        record { front = take t.start t.bytes.items; text = drop t.start t.bytes.items } };
 
     ghost invariant = { λ t. t.start ≤ vec_len t.bytes };
 }

@@ -1,4 +1,5 @@
-//! What the parts of a state have by their types: numbers are within their widths, and names are names. Each function only says it.
+//! What the parts of a state have by their types: numbers are within their widths, and names are
+//! names. Each function only says it.
 ghost use Rattle.std.specs.Prelude.{IfSome};
 ghost use Rattle.mqb_names.specs.Values.{AreBytes};
 ghost use Rattle.mqb_snapshot.specs.Values.{IsHeld, IsIdentity, IsIn, IsPlan};

@@ -12,8 +12,10 @@ pub record Attempted : Type 0 where
   pub back : List Change
   pub lines : List Line
 
--- Changes lead back from a state to the one before it, without memory, and leave no less room than that had.
-pub record LeadsBack (now : WithRooms State StateRooms) (back : List Change) (before : WithRooms State StateRooms) : Type 0 where
+-- Changes lead back from a state to the one before it, without memory, and leave no
+-- less room than that had.
+pub record LeadsBack (now : WithRooms State StateRooms) (back : List Change)
+    (before : WithRooms State StateRooms) : Type 0 where
   pub ready : AllReady now back
   pub lists : redone now.lists back ≡ before.lists
   pub rooms : IsGrown before.rooms (rooms_redone now.rooms back)

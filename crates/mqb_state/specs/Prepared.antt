@@ -20,7 +20,8 @@ pub record IsPreparedFrom (w : WithRooms State StateRooms) (p : Preparation) : T
   pub valid : IsValidState (redone w.lists p.changes)
 
 -- An effect is prepared: the changes to it can be made from this state, and the lines are its own.
-pub record IsPrepared (w : WithRooms State StateRooms) (p : Preparation) (after : Effect) : Type 0 where
+pub record IsPrepared (w : WithRooms State StateRooms) (p : Preparation)
+    (after : Effect) : Type 0 where
   pub from : IsPreparedFrom w p
   pub gives : redone w.lists p.changes ≡ after.state
   pub lines : p.lines ≡ after.lines

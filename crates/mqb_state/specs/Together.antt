@@ -16,7 +16,8 @@ use Rattle.mqb_model.specs.state.Valid.{IsValidState}
 
 -- what both come to: what is done beside a record has no line
 abbrev pub effect_with : State → Option Record → Beside → Effect
-effect_with s r b = record { state = beside_done b (recorded s r); lines = option_map_or (lines_of s) r [] }
+effect_with s r b =
+    record { state = beside_done b (recorded s r); lines = option_map_or (lines_of s) r [] }
 
 -- how many messages a record names, where there is one
 abbrev pub record_count : State → Option Record → ℕ
@@ -34,4 +35,5 @@ IsTried s (Some e) P = IsSomeAnd (record_in e) (λ r. (fits s r ≡ true) × P (
 -- What is done beside whatever record it is leaves a valid state.
 abbrev pub LeavesValid : State → Option Entry → Beside → Type 0
 LeavesValid s None b = IsValidState (beside_done b s)
-LeavesValid s (Some e) b = IfSome (record_in e) (λ r. fits s r ≡ true → IsValidState (beside_done b (recorded s (Some r))))
+LeavesValid s (Some e) b =
+    IfSome (record_in e) (λ r. fits s r ≡ true → IsValidState (beside_done b (recorded s (Some r))))

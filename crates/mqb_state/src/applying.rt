@@ -11,10 +11,12 @@ use mqb_records::RecordFault;
 use mqb_timeouts::ExpressWork;
 
 impl State {
-    /// Makes at once what an entry does, as a start from a store does it for each of its records. The answer is its lines of the ledger.
+    /// Makes at once what an entry does, as a start from a store does it for each of its records.
+    /// The answer is its lines of the ledger.
     ///
     /// # Errors
-    /// `Unfit` where the entry does not fit the state, and `Memory`. The lists stay as they are then.
+    /// `Unfit` where the entry does not fit the state, and `Memory`. The lists
+    /// stay as they are then.
     pub fn apply(&mut self, entry: &Entry<'_>) -> Result<Roomed<Line>, RecordFault>
         ensures ok { IfOk result (λ lines. IsSomeAnd (record_in entry.now)
             (λ r. (fits self.old.lists r ≡ true) × (effect_of self.old.lists r ≡

@@ -1,4 +1,5 @@
-ghost use Rattle.std.specs.Prelude.{◌≡◌, ◌+◌, ◌*◌, ◌≤◌, Err, IfOk, IsSomeAnd, OnErr, OnOk, Some, option_copied};
+ghost use Rattle.std.specs.Prelude.{◌≡◌, ◌+◌, ◌*◌, ◌≤◌, Err, IfOk, IsSomeAnd, OnErr, OnOk};
+ghost use Rattle.std.specs.Prelude.{Some, option_copied};
 ghost use Rattle.mqb_contents.specs.Changes.{AllReady, messages_back, redone, rooms_redone};
 ghost use Rattle.mqb_contents.specs.Rooms.{IsGrown};
 ghost use Rattle.mqb_timeouts.specs.Work.{beside_of};
@@ -8,7 +9,8 @@ ghost use Rattle.mqb_model.specs.state.Valid.{IsValidState};
 ghost use Rattle.mqb_records.specs.Unfit.{IsUnfit};
 ghost use Rattle.mqb_records.specs.mqb_arrivals.declared.faults.RecordFault.TheVariants as fault;
 ghost use Rattle.mqb_state.specs.Attempts.{LeadsBack};
-ghost use Rattle.mqb_state.specs.Together.{IsTried, LeavesValid, count_with, effect_with, record_count};
+ghost use Rattle.mqb_state.specs.Together.{IsTried, LeavesValid, count_with};
+ghost use Rattle.mqb_state.specs.Together.{effect_with, record_count};
 
 use crate::attempt::Attempt;
 use crate::state::State;
@@ -99,7 +101,8 @@ fn attempt_in(
 }
 
 impl State {
-    /// What an entry does with nothing beside it leaves a valid state. This says so, and does nothing.
+    /// What an entry does with nothing beside it leaves a valid state. This says
+    /// so, and does nothing.
     pub(crate) fn leaves_valid(&self, entry: &Entry<'_>)
         ensures { LeavesValid self.now.lists (Some entry.now) beside.Nothing }
     {
@@ -108,11 +111,13 @@ impl State {
         applied_is_valid();
     }
 
-    /// Does what an entry does, where there is one, and then what is done to express messages beside it, which must leave a valid state, as each call of
-    /// a valid manager does. The answer leads back, without memory.
+    /// Does what an entry does, where there is one, and then what is done to express messages
+    /// beside it, which must leave a valid state, as each call of a valid manager does. The answer
+    /// leads back, without memory.
     ///
     /// # Errors
-    /// `Unfit` where the entry does not fit the state, and `Memory`. The lists stay as they are then, and the room that was made is kept.
+    /// `Unfit` where the entry does not fit the state, and `Memory`. The lists stay as they are
+    /// then, and the room that was made is kept.
     pub fn attempt(
         &mut self,
         entry: Option<&Entry<'_>>,

@@ -1,7 +1,10 @@
-//! The durable state of one manager, and beside it the express messages and the marks of a connection.
+//! The durable state of one manager, and beside it the express messages and the
+//! marks of a connection.
 //!
-//! `State::attempt` does what an entry does, and answers what leads back, which `State::take_back` does without memory: so a record can be written between
-//! them. `State::prepare` leaves the state as it was, and `State::install` makes what was prepared, without memory. `spell` and `read_back` are a state in bytes, `print` the lines of what it holds.
+//! `State::attempt` does what an entry does, and answers what leads back, which `State::take_back`
+//! does without memory: so a record can be written between them. `State::prepare` leaves the state
+//! as it was, and `State::install` makes what was prepared, without memory. `spell` and `read_back`
+//! are a state in bytes, `print` the lines of what it holds.
 #![tactic(auto)]
 
 mod applying;

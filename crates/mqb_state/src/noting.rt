@@ -17,7 +17,8 @@ impl State {
         self.contents.unmark();
     }
 
-    /// A packet was sent to a peer with this session header: an acknowledgement took an express number, and a plain message counts as sent.
+    /// A packet was sent to a peer with this session header: an acknowledgement took an express
+    /// number, and a plain message counts as sent.
     pub fn note_sent(&mut self, peer: u32, origin: Origin, head: &SessionHead)
         requires { CanNote peer head.now self.old.lists (origin_of origin) }
         ensures lists { self.new.lists ≡ noted_as peer head.now self.old.lists (origin_of origin) }

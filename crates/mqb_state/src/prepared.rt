@@ -5,7 +5,8 @@ use mqb_base::{Line, Roomed};
 use mqb_drafts::Log;
 use std::marker::Model;
 
-/// What an entry does to the state for which it was prepared: changes that take no memory, and lines.
+/// What an entry does to the state for which it was prepared: changes that take
+/// no memory, and lines.
 #[derive(Debug, Drop)]
 pub struct Prepared {
     pub(crate) log: Log,

@@ -1,5 +1,6 @@
 ghost use Rattle.std.specs.Prelude.{◌≡◌, ◌*◌, ◌≤◌, Err, IfOk, IsSomeAnd, true};
-ghost use Rattle.mqb_contents.specs.Changes.{AllReady, messages, messages_back, redone, rooms_redone};
+ghost use Rattle.mqb_contents.specs.Changes.{AllReady, messages, messages_back};
+ghost use Rattle.mqb_contents.specs.Changes.{redone, rooms_redone};
 ghost use Rattle.mqb_contents.specs.Rooms.{IsGrown};
 ghost use Rattle.mqb_model.specs.records.Applying.{effect_of, fits};
 ghost use Rattle.mqb_model.specs.records.Counting.{named_count};
@@ -19,8 +20,8 @@ use mqb_records::RecordFault;
 use mqb_timeouts::ExpressWork;
 
 impl State {
-    /// Tries what an entry does, and takes the memory for it. The lists stay as they are, also on a refusal; a refusal for want of memory keeps the
-    /// room that was made.
+    /// Tries what an entry does, and takes the memory for it. The lists stay as they are, also on a
+    /// refusal; a refusal for want of memory keeps the room that was made.
     ///
     /// # Errors
     /// `Unfit` where the entry does not fit the state, and `Memory`.
@@ -42,7 +43,8 @@ impl State {
         }
     }
 
-    // Takes an attempt back, and keeps what does it again. It is taken back also where there is no memory for that.
+    // Takes an attempt back, and keeps what does it again. It is taken back also where there
+    // is no memory for that.
     fn turn(&mut self, attempt: Attempt) -> Result<Prepared, Memory>
         requires ready { AllReady self.old attempt.back }
         requires valid { IsValidState (redone self.old.lists attempt.back) }

@@ -75,14 +75,16 @@ impl State {
         self.contents.ordinals()
     }
 
-    /// The peers and destinations of the outgoing rows, each with the ordinal of the last row that has them.
+    /// The peers and destinations of the outgoing rows, each with the ordinal of the
+    /// last row that has them.
     pub fn in_use(&self) -> &IndexMap<OutKey, u32>
         ensures { LeadsToLast self.now.lists.outs result.now }
     {
         self.contents.in_use()
     }
 
-    /// The sources and destinations of the incoming rows, each with the index of the first row that has them.
+    /// The sources and destinations of the incoming rows, each with the index of the
+    /// first row that has them.
     pub fn sources(&self) -> &IndexMap<InKey, u32>
         ensures { LeadsToSource self.now.lists.ins result.now }
     {

@@ -18,8 +18,9 @@ use mqb_snapshot::snapshots_are_read_back;
 use std::alloc::Global;
 use std::marker::Model;
 
-/// What a store stands for, and beside it what a restart forgets: express messages, and the marks of plain messages that were sent. Contracts see the
-/// lists, and beside them how many members each can have without memory. Each state is valid.
+/// What a store stands for, and beside it what a restart forgets: express messages, and the marks
+/// of plain messages that were sent. Contracts see the lists, and beside them how many members each
+/// can have without memory. Each state is valid.
 #[derive(Debug, Drop)]
 pub struct State {
     pub(crate) contents: Box<Contents>,
@@ -59,7 +60,8 @@ impl State {
         keeping(alloc, Contents::empty(alloc, identity))
     }
 
-    /// What a store stands for that was spelled as these bytes, all of them, or the first field that stands in no such bytes.
+    /// What a store stands for that was spelled as these bytes, all of them, or the first field
+    /// that stands in no such bytes.
     pub fn read_back(alloc: Global, bytes: &[u8]) -> Result<State, BackFault>
         // Of any bytes.
         ensures exact { IsReadBack (state_of bytes.now) result }

@@ -9,7 +9,8 @@ use Rattle.mqb_model.specs.state.Durable.{durable}
 use Rattle.mqb_model.specs.state.State.{State}
 use Rattle.mqb_store_laws.specs.Images.{last_lines, state_in}
 
--- A store was read up to a place: the base and the records up to there stand for this state, and these are the lines of the last record.
+-- A store was read up to a place: the base and the records up to there stand for this state, and
+-- these are the lines of the last record.
 pub record IsReadUpTo (d : View) (scan : ScanState) (s : State) (lines : List Line) : Type 0 where
   pub whole : length scan.guid.0 ≡ 16
   pub within : scan.gate < scan.len

@@ -6,7 +6,8 @@ use Rattle.mqb_journal.specs.States.{JournalState}
 use Rattle.mqb_model.specs.state.State.{State}
 use Rattle.mqb_store_laws.specs.Images.{IsOn}
 
--- the state, the journal of its records, the entry that was spelled last, and the lines of the last record
+-- the state, the journal of its records, the entry that was spelled last, and the
+-- lines of the last record
 pub record StoreState : Type 0 where
   pub state : State
   pub journal : JournalState

@@ -1,6 +1,7 @@
 -- What is written, and what a failed write leaves.
 use Rattle.std.specs.Option.{option_map_or}
-use Rattle.std.specs.Prelude.{◌≡◌, ◌≤◌, Bool, IsSomeAnd, List, Option, false, length, option_and_then, true}
+use Rattle.std.specs.Prelude.{◌≡◌, ◌≤◌, Bool, IsSomeAnd, List, Option, false, length}
+use Rattle.std.specs.Prelude.{option_and_then, true}
 use Rattle.mqb_base.specs.declared.ledger.Line.{Line}
 use Rattle.mqb_entries.specs.SpelledEntries.{Fits, spelled}
 use Rattle.mqb_entries.specs.declared.entry.Entry.{Entry}
@@ -19,13 +20,15 @@ use Rattle.mqb_store.specs.declared.faults.WriteFault.TheVariants as fault
 abbrev pub change_in : Option Entry → Option Record
 change_in entry = option_and_then record_in entry
 
--- an entry can be written: it can be spelled, is no longer than a record may be, and is a record that fits
+-- an entry can be written: it can be spelled, is no longer than a record may be, and
+-- is a record that fits
 pub record CanWrite (s : State) (entry : Entry) : Type 0 where
   pub put : Fits entry
   pub small : length (spelled entry) ≤ MAX_RECORD
   pub fits : IsSomeAnd (record_in entry) (λ r. fits s r ≡ true)
 
--- what a write leaves of a state: that of the record, where there is one, and then what is done beside it
+-- what a write leaves of a state: that of the record, where there is one, and then
+-- what is done beside it
 abbrev pub written : State → Option Entry → Beside → State
 written s entry b = beside_done b (recorded s (change_in entry))
 

@@ -8,7 +8,8 @@ use mqb_base::Memory;
 use mqb_entries::Entry;
 use mqb_state::{Attempt, ExpressWork, PrepareFault, State};
 
-/// Does what an entry that can be written does, where there is one, and what is done beside it. The answer leads back.
+/// Does what an entry that can be written does, where there is one, and what is done beside it.
+/// The answer leads back.
 pub(crate) fn attempt(
     state: &mut State,
     entry: Option<&Entry<'_>>,

@@ -15,10 +15,12 @@ use mqb_outside::Disk;
 use mqb_store_laws::{bases_begin, states_are_own};
 
 impl Store {
-    /// Writes the state as a base in place of all records, by seven calls of the disk, before which all memory is taken. State and lines stay.
+    /// Writes the state as a base in place of all records, by seven calls of the disk, before which
+    /// all memory is taken. State and lines stay.
     ///
     /// # Errors
-    /// `Down`, `TooFar`, `TooLarge` and `Memory`: nothing has changed. `DiskFault`: the store is down, and no entry is in doubt.
+    /// `Down`, `TooFar`, `TooLarge` and `Memory`: nothing has changed. `DiskFault`: the store is
+    /// down, and no entry is in doubt.
     pub fn checkpoint<D: Disk>(&mut self, disk: &mut D) -> Result<(), CheckpointFault>
         requires on { IsUp self.old → IsStoredOn (D.view disk.old) self.old }
         ensures on { OnOk result (IsStoredOn (D.view disk.new) self.new) }
@@ -31,7 +33,8 @@ impl Store {
             ≡ checkpointed self.old.journal (length (snapshot self.old.state))) }
         ensures settled { OnOk result (IsSettled (D.view disk.new)) }
 
-        // A crash at any moment of the call leaves the state from before it, which is the state after it.
+        // A crash at any moment of the call leaves the state from before it, which
+        // is the state after it.
         ensures moments { IsStoredOn (D.view disk.old) self.old → IsSettled (D.view disk.old)
             → LeavesOnly (D.view disk.old) (D.view disk.new)
             (Opens self.old.journal self.old.state None) }

@@ -1,7 +1,8 @@
 use mqb_base::Memory;
 use thiserror::Error;
 
-/// Why a record was not written. After `Memory` nothing has changed; after `DiskFault` the store is down, and its record may have been written or not.
+/// Why a record was not written. After `Memory` nothing has changed; after `DiskFault` the store is
+/// down, and its record may have been written or not.
 #[derive(Clone, Copy, Debug, PartialEq, Eq, Error)]
 pub enum WriteFault {
     #[error("out of memory")]

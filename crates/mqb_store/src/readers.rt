@@ -1,4 +1,5 @@
-ghost use Rattle.std.specs.Prelude.{◌&&◌, ◌==◌, ◌≡◌, None, Some, if◌then◌else◌, length, not, option_copied};
+ghost use Rattle.std.specs.Prelude.{◌&&◌, ◌==◌, ◌≡◌, None, Some, if◌then◌else◌, length};
+ghost use Rattle.std.specs.Prelude.{not, option_copied};
 ghost use Rattle.mqb_model.specs.state.Valid.{IsValidState};
 
 use crate::store::Store;

@@ -1,5 +1,6 @@
 //! The state of a store is made again from its base and its records, one at a time.
-ghost use Rattle.std.specs.Prelude.{[], ◌-◌, ◌<◌, ◌≡◌, ◌≢◌, ◌⊎◌, ◌+◌, ◌≤◌, Err, IfOk, IsSomeAnd, None, OnOk, Some, false, length, max, true, ℕ};
+ghost use Rattle.std.specs.Prelude.{[], ◌-◌, ◌<◌, ◌≡◌, ◌≢◌, ◌⊎◌, ◌+◌, ◌≤◌, Err, IfOk, IsSomeAnd};
+ghost use Rattle.std.specs.Prelude.{None, OnOk, Some, false, length, max, true, ℕ};
 ghost use Rattle.mqb_base.specs.Same.{same_guid};
 ghost use Rattle.mqb_outside.specs.Disk.{IsSettled, OnlyReads};
 ghost use Rattle.mqb_outside.specs.Images.{Each};
@@ -28,7 +29,8 @@ use mqb_state::{BackFault, PrepareFault, State};
 use mqb_store_laws::{entries_begin, entries_go_on};
 use std::alloc::Global;
 
-/// The state that a base spells, whose identity has the GUID of the header. The base stands in an area at a place.
+/// The state that a base spells, whose identity has the GUID of the header. The base stands
+/// in an area at a place.
 fn base_state(alloc: Global, base: &[u8], area: u64, guid: Guid) -> Result<State, OpenFault>
     ensures spelled { IfOk result (λ s. state_at base.now ≡ Some s.lists) }
     ensures durable { IfOk result (λ s. durable s.lists ≡ s.lists) }
@@ -87,7 +89,8 @@ fn first_state<D: Disk>(alloc: Global, disk: &mut D, scan: &mut Scan) -> Result<
     Ok(State::empty(alloc, &identity)?)
 }
 
-/// The state on which the records of a store are made: that of its base, or where it has none that of the first record.
+/// The state on which the records of a store are made: that of its base, or where it has none that
+/// of the first record.
 pub(crate) fn first<D: Disk>(
     alloc: Global,
     disk: &mut D,
@@ -218,7 +221,8 @@ fn replay<D: Disk>(
     Ok(lines)
 }
 
-/// Makes all records that are left, and syncs the disk, since who wrote them may have been killed before. Answers the lines of the last.
+/// Makes all records that are left, and syncs the disk, since who wrote them may have been killed
+/// before. Answers the lines of the last.
 pub(crate) fn replay_durably<D: Disk>(
     alloc: Global,
     disk: &mut D,

@@ -21,7 +21,8 @@ pub fn is_ready(session: &Session) -> bool
     }
 }
 
-/// The index of the peer to which a session leads. While it is not known, that is the index of no peer.
+/// The index of the peer to which a session leads. While it is not known, that is
+/// the index of no peer.
 pub fn linked_peer(state: &State, session: &Session) -> u32
     ensures { result ≡ linked_peer state.now.lists session.now }
 {

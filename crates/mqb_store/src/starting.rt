@@ -1,4 +1,5 @@
-ghost use Rattle.std.specs.Prelude.{[], ◌+◌, ◌<◌, ◌≡◌, ◌≢◌, ◌≤◌, Err, IfOk, List, OnOk, length, max, ℕ};
+ghost use Rattle.std.specs.Prelude.{[], ◌+◌, ◌<◌, ◌≡◌, ◌≢◌, ◌≤◌, Err, IfOk, List, OnOk, length};
+ghost use Rattle.std.specs.Prelude.{max, ℕ};
 ghost use Rattle.mqb_outside.specs.Disk.{AtMost, Counted, IsSettled, OnlyReads};
 ghost use Rattle.mqb_outside.specs.Images.{Each};
 ghost use Rattle.mqb_journal.specs.Causes.{FaultsAsSaid, open_failed};
@@ -25,7 +26,8 @@ impl Store {
     /// Makes an empty disk the store of a manager with this identity, and nothing else.
     ///
     /// # Errors
-    /// `NotEmpty`, `Memory` and `DiskFault`. After `DiskFault` the disk may have any part of the store, and is formatted anew once it was emptied.
+    /// `NotEmpty`, `Memory` and `DiskFault`. After `DiskFault` the disk may have any part of the
+    /// store, and is formatted anew once it was emptied.
     pub fn format<D: Disk>(
         alloc: Global,
         disk: &mut D,
@@ -78,10 +80,12 @@ impl Store {
         }
     }
 
-    /// The store on a disk: its base is read back, and each record is made on that state as it is read. Nothing is written, and a sync makes safe what was read.
+    /// The store on a disk: its base is read back, and each record is made on that state as it is
+    /// read. Nothing is written, and a sync makes safe what was read.
     ///
     /// # Errors
-    /// `BadStore` with the first place where the disk is no store of a manager; `Memory`; `DiskFault`.
+    /// `BadStore` with the first place where the disk is no store of a manager;
+    /// `Memory`; `DiskFault`.
     pub fn start<D: Disk>(alloc: Global, disk: &mut D) -> Result<Store, OpenFault>
         ensures on { IfOk result (IsStoredOn (D.view disk.new)) }
         ensures up { IfOk result IsUp }
@@ -98,7 +102,8 @@ impl Store {
         // No further than the gate behind the last record.
         ensures reached { IfOk result (λ w. (D.view disk.new).reached
             ≤ max (D.view disk.old).reached (w.journal.end + 1)) }
-        // However it ends: in the order of the records, and no further than the one at which it stops.
+        // However it ends: in the order of the records, and no further than the
+        // one at which it stops.
         ensures no_further { Each (D.view disk.old).reads
             (ReadsInOrder (D.view disk.old).reached (D.view disk.new).reached) }
         ensures cause { FaultsAsSaid open_failed (D.view disk.old).faults

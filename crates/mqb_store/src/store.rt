@@ -4,14 +4,14 @@ use mqb_state::State;
 use std::alloc::Global;
 use std::marker::Model;
 
-/// A manager's state, and the journal of the records for which it stands. It is used with the disk on which it was formatted or started, and nobody else
-/// writes that.
+/// A manager's state, and the journal of the records for which it stands. It is used with the disk
+/// on which it was formatted or started, and nobody else writes that.
 #[derive(Debug, Drop)]
 pub struct Store {
     pub(crate) state: State,
     pub(crate) journal: Journal,
-    // The block of the entry that was spelled last. Where a write failed, that may be on the disk or not. A checkpoint leaves nothing here, since nothing of
-    // it is in doubt.
+    // The block of the entry that was spelled last. Where a write failed, that may be on the disk
+    // or not. A checkpoint leaves nothing here, since nothing of it is in doubt.
     pub(crate) block: Vec<u8>,
     pub(crate) lines: Roomed<Line>,
     pub(crate) alloc: Global,
@@ -32,7 +32,8 @@ impl Model for Store {
 }
 
 impl Store {
-    /// Lets the store go; whatever was recorded stays on its disk. Where a store ends by this call, how it ends is not proved again.
+    /// Lets the store go; whatever was recorded stays on its disk. Where a store ends by this call,
+    /// how it ends is not proved again.
     pub fn close(self) {
         self.state.close();
     }

@@ -1,5 +1,7 @@
--- Of which states a base can be written, and what the call checkpoint comes to: the state is written anew as one base.
-use Rattle.std.specs.Prelude.{Bool, None, Ok, Option, Result, Some, if◌then◌else◌, length, nat_lt, true}
+-- Of which states a base can be written, and what the call checkpoint comes to: the state is
+-- written anew as one base.
+use Rattle.std.specs.Prelude.{Bool, None, Ok, Option, Result, Some, if◌then◌else◌, length}
+use Rattle.std.specs.Prelude.{nat_lt, true}
 use Rattle.mqb_journal.specs.declared.faults.CheckpointFault.{CheckpointFault}
 use Rattle.mqb_journal.specs.declared.faults.CheckpointFault.TheVariants as fault
 use Rattle.mqb_layout.specs.declared.limits.TheConstants.{MAX_BASE}

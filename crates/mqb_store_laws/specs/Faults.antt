@@ -1,5 +1,7 @@
--- Where a store is bad: before its first gate, or at the first gate, length or entry that does not go on from those before it.
-use Rattle.std.specs.Prelude.{[], ◌++◌, ◌∷◌, ◌≡◌, ◌⊎◌, IsSome, List, None, Option, Some, false, length, option_map, ℕ}
+-- Where a store is bad: before its first gate, or at the first gate, length or entry that does not
+-- go on from those before it.
+use Rattle.std.specs.Prelude.{[], ◌++◌, ◌∷◌, ◌≡◌, ◌⊎◌, IsSome, List, None, Option, Some, false}
+use Rattle.std.specs.Prelude.{length, option_map, ℕ}
 use Rattle.mqb_base.specs.Same.{same_guid}
 use Rattle.mqb_base.specs.declared.ids.Guid.{Guid}
 use Rattle.mqb_base.specs.declared.ids.Identity.{Identity}
@@ -12,10 +14,13 @@ use Rattle.mqb_store_laws.specs.Images.{identity_in, state_at, state_from, state
 
 -- Entries stand for a state behind a base, or there is neither yet.
 abbrev pub MayGoOn : Guid → Base → List (List ℕ) → Type 0
-MayGoOn guid base entries = ((base ≡ Nothing) × (entries ≡ [])) ⊎ IsSome (state_in guid base entries)
+MayGoOn guid base entries =
+    ((base ≡ Nothing) × (entries ≡ [])) ⊎ IsSome (state_in guid base entries)
 
--- An image begins with the front of a store with this GUID and this base, and with entries that may go on, up to a place.
-pub record GoesWell (guid : Guid) (base : Base) (entries : List (List ℕ)) (at : ℕ) (image : List ℕ) : Type 0 where
+-- An image begins with the front of a store with this GUID and this base, and with entries that may
+-- go on, up to a place.
+pub record GoesWell (guid : Guid) (base : Base) (entries : List (List ℕ)) (at : ℕ)
+    (image : List ℕ) : Type 0 where
   pub whole : length guid.0 ≡ 16
   pub goes : GoesTo guid.0 base entries at image
   pub good : MayGoOn guid base entries
@@ -36,7 +41,8 @@ identity_told Nothing [] = None
 identity_told Nothing (first ∷ entries) = identity_in (record_of first)
 identity_told (After count bytes) entries = option_map (λ (s : State). s.identity) (state_at bytes)
 
--- The identity has another GUID than the header, which is told as place 0, whatever stands behind it.
+-- The identity has another GUID than the header, which is told as place 0,
+-- whatever stands behind it.
 pub record HasOtherGuid (at : ℕ) (image : List ℕ) : Type 0 where
   pub place : at ≡ 0
   pub guid : Guid
@@ -63,7 +69,8 @@ pub record BreaksOff (at : ℕ) (image : List ℕ) : Type 0 where
   pub here : GoesWell guid base entries at image
   pub broken : IsBadAt at image
 
--- Behind entries that may go on one stands at this place with which they stand for no state, whatever GUID the header has.
+-- Behind entries that may go on one stands at this place with which they stand for no state,
+-- whatever GUID the header has.
 pub record HasUnfit (at : ℕ) (image : List ℕ) : Type 0 where
   pub guid : Guid
   pub base : Base
@@ -76,4 +83,5 @@ pub record HasUnfit (at : ℕ) (image : List ℕ) : Type 0 where
 
 -- An image is no store of a manager, and this is the first place where it fails.
 abbrev pub IsBadStore : ℕ → List ℕ → Type 0
-IsBadStore at image = HasNoFront at image ⊎ HasBadBase at image ⊎ HasOtherGuid at image ⊎ HasNoRecord at image ⊎ BreaksOff at image ⊎ HasUnfit at image
+IsBadStore at image = HasNoFront at image ⊎ HasBadBase at image ⊎ HasOtherGuid at image
+    ⊎ HasNoRecord at image ⊎ BreaksOff at image ⊎ HasUnfit at image

@@ -1,6 +1,7 @@
 -- What the base and the entries of a store stand for, and what an image of its disk opens to.
 use Rattle.std.specs.Option.{option_map_or}
-use Rattle.std.specs.Prelude.{[], ◌+◌, ◌++◌, ◌∷◌, ◌≡◌, ◌⊎◌, Bool, List, None, Option, Some, false, fold, if◌then◌else◌, length, map, option_and_then, ℕ}
+use Rattle.std.specs.Prelude.{[], ◌+◌, ◌++◌, ◌∷◌, ◌≡◌, ◌⊎◌, Bool, List, None, Option, Some, false}
+use Rattle.std.specs.Prelude.{fold, if◌then◌else◌, length, map, option_and_then, ℕ}
 use Rattle.std.specs.Result.{result_ok}
 use Rattle.mqb_base.specs.Same.{same_guid}
 use Rattle.mqb_base.specs.declared.ids.Guid.{Guid}
@@ -53,7 +54,8 @@ state_behind (After count bytes) records = fold applied_after (state_at bytes) r
 -- the state that they stand for in a store with this GUID
 abbrev pub state_by : Guid → Base → List Record → Option State
 state_by guid Nothing records = if begins_as guid records then state_of records else None
-state_by guid (After count bytes) records = fold applied_after (option_and_then (of_guid guid) (state_at bytes)) records
+state_by guid (After count bytes) records =
+    fold applied_after (option_and_then (of_guid guid) (state_at bytes)) records
 
 -- the state that entries stand for behind a base, whatever GUID the store has
 abbrev pub state_from : Base → List (List ℕ) → Option State
@@ -71,9 +73,12 @@ pub record OpensTo (guid : Guid) (count : ℕ) (s : State) (image : List ℕ) : 
   pub counted : count_of base + length entries ≡ count
   pub state : state_in guid base entries ≡ Some s
 
--- The lines that an entry added, which is the last behind these: those of its record in the state that they stand for. A first entry has none.
+-- The lines that an entry added, which is the last behind these: those of its record in the state
+-- that they stand for. A first entry has none.
 abbrev pub lines_added : Guid → Base → List (List ℕ) → List ℕ → List Line
-lines_added guid base before last = option_map_or (λ s. option_map_or (lines_of s) (record_of last) []) (state_in guid base before) []
+lines_added guid base before last =
+    option_map_or (λ s. option_map_or (lines_of s) (record_of last) [])
+    (state_in guid base before) []
 
 -- the lines that the last of these entries added, which stand behind others
 abbrev pub last_added : Guid → Base → (before : List (List ℕ)) → List (List ℕ) → List Line
@@ -92,15 +97,18 @@ pub record HasLastLines (guid : Guid) (lines : List Line) (image : List ℕ) : T
   pub stands : StandsFor guid.0 base entries image
   pub added : lines ≡ last_lines guid base entries
 
--- A disk stands for the base and the records from which a journal goes on, and they for what a store has of a state.
+-- A disk stands for the base and the records from which a journal goes on, and they for what a
+-- store has of a state.
 pub record IsOn (d : View) (j : JournalState) (s : State) : Type 0 where
   pub base : Base
   pub entries : List (List ℕ)
   pub goes_on : GoesOn d j base entries
   pub state : state_in j.guid base entries ≡ Some (durable s)
 
--- An image opens to a state, or to the state that a record leaves, by one record more, which is the last then, with its lines.
+-- An image opens to a state, or to the state that a record leaves, by one record more, which is the
+-- last then, with its lines.
 abbrev pub Opens : JournalState → State → Option Record → List ℕ → Type 0
 Opens j s None image = OpensTo j.guid j.count (durable s) image
 Opens j s (Some r) image = OpensTo j.guid j.count (durable s) image
-    ⊎ (OpensTo j.guid (j.count + 1) (durable (apply s r)) image × HasLastLines j.guid (lines_of s r) image)
+    ⊎ (OpensTo j.guid (j.count + 1) (durable (apply s r)) image
+    × HasLastLines j.guid (lines_of s r) image)

@@ -1,11 +1,14 @@
-ghost use Rattle.mqb_store_laws.specs.Laws.{BadAtOnePlace, BasesBegin, EntriesBegin, EntriesGoOn, ImagesOpenToOne, OpenedIsNotBad, RecordsJoin, StatesAreOwn};
+ghost use Rattle.mqb_store_laws.specs.Laws.{BadAtOnePlace, BasesBegin, EntriesBegin, EntriesGoOn};
+ghost use Rattle.mqb_store_laws.specs.Laws.{ImagesOpenToOne, OpenedIsNotBad};
+ghost use Rattle.mqb_store_laws.specs.Laws.{RecordsJoin, StatesAreOwn};
 
 use mqb_journal::{
     bad_at_one_place as one_place, chains_begin_alike, records_are_not_bad, stands_for_one_list,
 };
 use mqb_model::{durable_is_applied, durable_is_fitted, records_keep_identities};
 
-/// The first entry stands for a manager that has nothing but its identity, where it is one; in a store, where that has the store's GUID.
+/// The first entry stands for a manager that has nothing but its identity, where it is one; in a
+/// store, where that has the store's GUID.
 pub fn entries_begin()
     ensures { EntriesBegin }
 {}
@@ -15,7 +18,8 @@ pub fn entries_go_on()
     ensures { EntriesGoOn }
 {}
 
-/// A record that fits a valid state joins the entries that stand for what a store has of it, and adds the lines that it has there.
+/// A record that fits a valid state joins the entries that stand for what a store has of it, and
+/// adds the lines that it has there.
 pub fn records_join()
     ensures { RecordsJoin }
 {

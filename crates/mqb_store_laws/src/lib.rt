@@ -1,4 +1,5 @@
-//! Laws of the store of a manager: what its entries stand for, what an image of its disk opens to, and where it is bad.
+//! Laws of the store of a manager: what its entries stand for, what an image of its disk opens to,
+//! and where it is bad.
 #![tactic(auto)]
 
 mod laws;

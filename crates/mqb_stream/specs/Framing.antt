@@ -1,5 +1,6 @@
 -- What a framer holds, answers and takes.
-use Rattle.std.specs.Prelude.{ℕ, ◌+◌, ◌-◌, ◌^◌, ◌<◌, ◌≤◌, Bool, true, false, nat_lt, List, [], ◌++◌, take, length, Result, Ok, Err, if◌then◌else◌}
+use Rattle.std.specs.Prelude.{ℕ, ◌+◌, ◌-◌, ◌^◌, ◌<◌, ◌≤◌, Bool, true, false, nat_lt, List, [], ◌++◌}
+use Rattle.std.specs.Prelude.{take, length, Result, Ok, Err, if◌then◌else◌}
 use Rattle.mqb_fields.specs.declared.faults.HeadFault.{HeadFault}
 use Rattle.mqb_heads.specs.declared.base.TheConstants.{MIN_PACKET, MAX_PACKET}
 use Rattle.mqb_stream.specs.declared.framer.Full.{Full}
@@ -7,7 +8,8 @@ use Rattle.mqb_stream.specs.declared.framer.Next.{Next}
 use Rattle.mqb_stream.specs.declared.framer.Next.TheVariants as answer
 use Rattle.mqb_stream.specs.Cutting.{packet_size}
 
--- the greatest size of a packet, the room of the buffer, the place in the stream of the present packet's first byte, and the bytes of it that were taken
+-- the greatest size of a packet, the room of the buffer, the place in the stream of the present
+-- packet's first byte, and the bytes of it that were taken
 pub record Framing : Type 0 where
   pub limit : ℕ
   pub room : ℕ
@@ -28,11 +30,13 @@ answer_of (answer.More need) = Wants need
 
 -- what is to be done of a packet, by its size
 abbrev pub by_size : Framing → Result ℕ HeadFault → Answer
-by_size f (Ok size) = if nat_lt (length f.held) size then Wants (size - length f.held) else Whole f.held
+by_size f (Ok size) =
+    if nat_lt (length f.held) size then Wants (size - length f.held) else Whole f.held
 by_size f (Err fault) = Broken fault f.place
 
 unfoldable pub next : Framing → Answer
-next f = if nat_lt (length f.held) 16 then Wants (16 - length f.held) else by_size f (packet_size f.limit f.held)
+next f = if nat_lt (length f.held) 16 then Wants (16 - length f.held)
+    else by_size f (packet_size f.limit f.held)
 
 abbrev pub wants_more : Answer → Bool
 wants_more (Wants need) = true
@@ -46,7 +50,8 @@ abbrev pub end_by : Result ℕ HeadFault → ℕ
 end_by (Ok size) = size
 end_by (Err fault) = 16
 
--- how far the packet at the front of bytes reaches, as far as it is known: to the end of its base header at least
+-- how far the packet at the front of bytes reaches, as far as it is known: to the end of its
+-- base header at least
 unfoldable pub packet_end : ℕ → List ℕ → ℕ
 packet_end limit bytes = if nat_lt (length bytes) 16 then 16 else end_by (packet_size limit bytes)
 
@@ -56,7 +61,8 @@ fed f bytes = record f { held = take (packet_end f.limit (f.held ++ bytes)) (f.h
 
 -- how many of the bytes it takes, where no packet and no bad header waits
 abbrev pub taken_of : Framing → List ℕ → Result ℕ Full
-taken_of f bytes = if wants_more (next f) then Ok (length (fed f bytes).held - length f.held) else Err (record {})
+taken_of f bytes =
+    if wants_more (next f) then Ok (length (fed f bytes).held - length f.held) else Err (record {})
 
 -- the framer once the packet was dropped
 abbrev pub advanced : Framing → Framing

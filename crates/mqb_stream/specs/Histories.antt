@@ -1,7 +1,9 @@
 -- What comes of a framer that is fed and advanced in any order.
-use Rattle.std.specs.Prelude.{◌≡◌, ℕ, ◌-◌, List, [], ◌∷◌, ◌++◌, take, length, fold, Err, if◌then◌else◌}
+use Rattle.std.specs.Prelude.{◌≡◌, ℕ, ◌-◌, List, [], ◌∷◌, ◌++◌, take, length, fold}
+use Rattle.std.specs.Prelude.{Err, if◌then◌else◌}
 use Rattle.mqb_stream.specs.Cutting.{CutsInto, packet_size, joined}
-use Rattle.mqb_stream.specs.Framing.{Framing, Answer, Whole, Broken, Wants, next, wants_more, fed, advanced}
+use Rattle.mqb_stream.specs.Framing.{Framing, Answer, Whole, Broken, Wants, next, wants_more}
+use Rattle.mqb_stream.specs.Framing.{fed, advanced}
 
 -- bytes are offered, or the packet that waits is dropped
 pub data Step : Type 0 where
@@ -15,7 +17,11 @@ pub record History : Type 0 where
   pub frames : List (List ℕ)
 
 abbrev pub start : (limit room : ℕ) → History
-start limit room = record { framing = record { limit = limit; room = room; place = 0; held = [] }; taken = []; frames = [] }
+start limit room = record {
+  framing = record { limit = limit; room = room; place = 0; held = [] };
+  taken = [];
+  frames = [];
+}
 
 -- the part of the bytes that a framer takes
 abbrev pub part_of : Framing → List ℕ → List ℕ
@@ -23,11 +29,16 @@ part_of f bytes = take (length (fed f bytes).held - length f.held) bytes
 
 abbrev pub after_feed : History → List ℕ → History
 after_feed h bytes = if wants_more (next h.framing)
-    then record { framing = fed h.framing bytes; taken = h.taken ++ part_of h.framing bytes; frames = h.frames }
+    then record {
+      framing = fed h.framing bytes;
+      taken = h.taken ++ part_of h.framing bytes;
+      frames = h.frames;
+    }
     else h
 
 abbrev pub after_advance : History → Answer → History
-after_advance h (Whole bytes) = record { framing = advanced h.framing; taken = h.taken; frames = h.frames ++ bytes ∷ [] }
+after_advance h (Whole bytes) =
+    record { framing = advanced h.framing; taken = h.taken; frames = h.frames ++ bytes ∷ [] }
 after_advance h other = h
 
 abbrev pub after : History → Step → History

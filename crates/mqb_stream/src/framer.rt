@@ -1,6 +1,8 @@
-ghost use Rattle.std.specs.Prelude.{◌≡◌, ◌+◌, ◌-◌, ◌<◌, ◌≤◌, ◌^◌, [], ◌++◌, take, drop, length, vec_len, vec_capacity, IfOk, IsTrue, OnOk, OnErr};
+ghost use Rattle.std.specs.Prelude.{◌≡◌, ◌+◌, ◌-◌, ◌<◌, ◌≤◌, ◌^◌, [], ◌++◌, take, drop, length};
+ghost use Rattle.std.specs.Prelude.{vec_len, vec_capacity, IfOk, IsTrue, OnOk, OnErr};
 ghost use Rattle.mqb_stream.specs.Cutting.{packet_size};
-ghost use Rattle.mqb_stream.specs.Framing.{advanced, answer_of, fed, is_whole, next, packet_end, taken_of, wants_more};
+ghost use Rattle.mqb_stream.specs.Framing.{advanced, answer_of, fed, is_whole, next, packet_end};
+ghost use Rattle.mqb_stream.specs.Framing.{taken_of, wants_more};
 
 use mqb_base::Memory;
 use mqb_fields::HeadFault;
@@ -17,8 +19,9 @@ const HEAD: usize = 16;
 #[error("a packet waits")]
 pub struct Full;
 
-/// What is to be done: a whole packet waits, a base header is bad, or more bytes are wanted. `place` is the packet's first byte in the stream.
-/// `need` is what the base header wants, and after it what the packet wants.
+/// What is to be done: a whole packet waits, a base header is bad, or more bytes are wanted.
+/// `place` is the packet's first byte in the stream. `need` is what the base header wants, and
+/// after it what the packet wants.
 #[derive(Clone, Copy, Debug)]
 pub enum Next<'a> {
     Packet(&'a [u8]),
@@ -26,8 +29,8 @@ pub enum Next<'a> {
     More { need: u32 },
 }
 
-/// Cuts a stream into packets of at most `limit` bytes. Contracts see the limit, the room of its buffer in bytes, the place of the present packet in
-/// the stream, and what was taken of it.
+/// Cuts a stream into packets of at most `limit` bytes. Contracts see the limit, the room of its
+/// buffer in bytes, the place of the present packet in the stream, and what was taken of it.
 #[derive(Debug, Drop)]
 pub struct Framer {
     buffer: Vec<u8>,
@@ -41,7 +44,12 @@ impl Model for Framer {
 
     ghost Value = { Framing };
 
-    ghost view = { λ f. record { limit = f.limit; room = vec_capacity f.buffer; place = f.place; held = f.buffer.items } };
+    ghost view = { λ f. record {
+      limit = f.limit;
+      room = vec_capacity f.buffer;
+      place = f.place;
+      held = f.buffer.items;
+    } };
 
     ghost invariant = { λ f. IsFramer f.limit f.place f.buffer.items (vec_capacity f.buffer) };
 }
@@ -188,7 +196,8 @@ impl Framer {
         matches!(self.next(), Next::More { .. })
     }
 
-    /// Takes the bytes that belong to the present packet, and tells how many they are. The others belong to the next one.
+    /// Takes the bytes that belong to the present packet, and tells how many they are. The others
+    /// belong to the next one.
     #[tactic(auto, unfolding(crate::specs::Framing::fed))]
     pub fn feed(&mut self, bytes: &[u8]) -> Result<usize, Full>
         requires { self.old.place + (length self.old.held + length bytes.now) < 2 ^ 64 }

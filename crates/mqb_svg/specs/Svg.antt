@@ -1,5 +1,6 @@
 -- The text of a picture, in the language SVG.
-use Rattle.std.specs.Prelude.{ℕ, ◌+◌, ◌*◌, ◌==◌, ◌&&◌, nat_le, List, [], ◌∷◌, ◌++◌, length, codes, flat_map, if◌then◌else◌}
+use Rattle.std.specs.Prelude.{ℕ, ◌+◌, ◌*◌, ◌==◌, ◌&&◌, nat_le, List, [], ◌∷◌, ◌++◌, length, codes}
+use Rattle.std.specs.Prelude.{flat_map, if◌then◌else◌}
 use Rattle.std.specs.Fmt.{decimal}
 use Rattle.mqb_svg.specs.declared.sides.Side.{Side}
 use Rattle.mqb_svg.specs.declared.sides.Side.TheVariants as side
@@ -13,7 +14,8 @@ use Rattle.mqb_svg.specs.Sides.{other}
 
 -- Texts without markup.
 
--- a byte of a text: what markup is made of becomes its name, and what no text may hold a question mark
+-- a byte of a text: what markup is made of becomes its name, and what no text may
+-- hold a question mark
 abbrev pub escaped_byte : ℕ → List ℕ
 escaped_byte b = if b == 38 then codes "&amp;"
     else if b == 60 then codes "&lt;"
@@ -46,7 +48,8 @@ mark_place side.Alpha = codes "' x='500'/><text x='486' y='4' text-anchor='end' 
 mark_place side.Beta = codes "' x='880'/><text x='894' y='4' class='"
 
 unfoldable pub mark_text : Side → Mark → List ℕ → List ℕ
-mark_text side mark text = shape_text (mark_name mark) (mark_place side) ++ escaped text ++ codes "</text>"
+mark_text side mark text =
+    shape_text (mark_name mark) (mark_place side) ++ escaped text ++ codes "</text>"
 
 -- Arrows.
 
@@ -63,15 +66,19 @@ fate_word fate.Lost = codes " lost: "
 fate_word fate.Repeated = codes " again"
 fate_word fate.Late = codes " late"
 
--- an arrow is drawn from alpha, and turned round where it comes from beta; its label stands near its sender
+-- an arrow is drawn from alpha, and turned round where it comes from beta; its label
+-- stands near its sender
 abbrev pub arrow_place : Side → List ℕ
 arrow_place side.Alpha = codes "'/><text x='590' y='-7' text-anchor='middle' class='label "
-arrow_place side.Beta = codes "' transform='matrix(-1 0 0 1 1380 0)'/><text x='790' y='-7' text-anchor='middle' class='label "
+arrow_place side.Beta =
+    codes "' transform='matrix(-1 0 0 1 1380 0)'/><text x='790' y='-7' text-anchor='middle' class='label "
 
 unfoldable pub arrow_text : Side → ℕ → Fate → List ℕ
-arrow_text from k fate = shape_text (fate_name fate) (arrow_place from) ++ decimal k ++ fate_word fate
+arrow_text from k fate =
+    shape_text (fate_name fate) (arrow_place from) ++ decimal k ++ fate_word fate
 
--- what stands behind the label of an arrow: a lost packet ends on its way, and any other comes to the other side, which answers
+-- what stands behind the label of an arrow: a lost packet ends on its way, and any other comes to
+-- the other side, which answers
 abbrev pub landing : Side → Fate → Mark → List ℕ → List ℕ
 landing from fate.Lost mark text = escaped text ++ codes "</text>"
 landing from _ mark text = codes "</text>" ++ mark_text (other from) mark text
@@ -79,22 +86,26 @@ landing from _ mark text = codes "</text>" ++ mark_text (other from) mark text
 -- Rows.
 
 unfoldable pub bar_text : List ℕ → List ℕ
-bar_text text = codes "<rect x='492' y='-10' width='396' height='20' rx='4' fill='#e0e7ff' stroke='#a5b4fc'/>"
-    ++ codes "<text x='690' y='4' text-anchor='middle' class='plain'>" ++ escaped text ++ codes "</text>"
+bar_text text =
+    codes "<rect x='492' y='-10' width='396' height='20' rx='4' fill='#e0e7ff' stroke='#a5b4fc'/>"
+    ++ codes "<text x='690' y='4' text-anchor='middle' class='plain'>" ++ escaped text
+    ++ codes "</text>"
 
 -- the number of a line, in the margin
 unfoldable pub line_text : ℕ → List ℕ
 line_text n = codes "<text class='line' x='14' y='4'>" ++ decimal n ++ codes "</text>"
 
 unfoldable pub element_text : Element → List ℕ
-element_text (Arrow n from k fate mark text) = line_text n ++ arrow_text from k fate ++ landing from fate mark text
+element_text (Arrow n from k fate mark text) =
+    line_text n ++ arrow_text from k fate ++ landing from fate mark text
 element_text (Note n side mark text) = line_text n ++ mark_text side mark text
 element_text (Bar n text) = line_text n ++ bar_text text
 element_text (End text) = bar_text text
 
 -- the row of an element, so far below the top
 unfoldable pub row_text : ℕ → Element → List ℕ
-row_text y element = codes "<g transform='translate(0 " ++ decimal y ++ codes ")'>" ++ element_text element ++ codes "</g>\n"
+row_text y element = codes "<g transform='translate(0 " ++ decimal y ++ codes ")'>"
+    ++ element_text element ++ codes "</g>\n"
 
 abbrev pub ROW : ℕ
 ROW = 28
@@ -139,13 +150,16 @@ names_text = codes "'/>\n"
     ++ codes "<g class='name' text-anchor='middle'><text x='500' y='34'>alpha</text><text x='880' y='34'>beta</text></g>\n"
 
 unfoldable pub lifelines_text : ℕ → List ℕ
-lifelines_text height = codes "<path stroke='#9ca3af' stroke-width='1.5' d='M500 44V" ++ decimal height ++ codes "M880 44V" ++ decimal height ++ names_text
+lifelines_text height = codes "<path stroke='#9ca3af' stroke-width='1.5' d='M500 44V"
+    ++ decimal height ++ codes "M880 44V" ++ decimal height ++ names_text
 
 unfoldable pub head_text : ℕ → List ℕ
-head_text height = codes "<svg xmlns='http://www.w3.org/2000/svg' viewBox='0 0 1380 " ++ decimal height ++ style_text ++ shapes_text ++ lifelines_text height
+head_text height = codes "<svg xmlns='http://www.w3.org/2000/svg' viewBox='0 0 1380 "
+    ++ decimal height ++ style_text ++ shapes_text ++ lifelines_text height
 
 unfoldable pub svg_of : List Element → List ℕ
-svg_of elements = head_text (TOP + ROW * length elements) ++ rows_from TOP elements ++ codes "</svg>\n"
+svg_of elements =
+    head_text (TOP + ROW * length elements) ++ rows_from TOP elements ++ codes "</svg>\n"
 
 -- the greatest number of elements of a picture
 abbrev pub MOST_ELEMENTS : ℕ

@@ -1,6 +1,7 @@
 //! Sequence diagrams between two managers as texts in the language SVG.
 //!
-//! A picture is a list of elements, one in each row: arrows, marks on the two lifelines, bars. `specs/Svg` has the text of each.
+//! A picture is a list of elements, one in each row: arrows, marks on the two lifelines, bars.
+//! `specs/Svg` has the text of each.
 #![tactic(auto)]
 
 mod elements;

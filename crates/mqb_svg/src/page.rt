@@ -6,7 +6,8 @@ use mqb_base::Memory;
 use std::alloc::Global;
 use std::marker::Model;
 
-/// The text of a picture that is being written. Contracts see the text. After a refusal a part of what was asked may stand in it.
+/// The text of a picture that is being written. Contracts see the text. After a refusal a part of
+/// what was asked may stand in it.
 #[derive(Drop)]
 pub struct Page {
     alloc: Global,

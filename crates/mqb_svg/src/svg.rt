@@ -1,7 +1,11 @@
 ghost use Rattle.std.specs.Prelude.{◌≡◌, ◌≤◌, ◌+◌, ◌*◌, ◌++◌, length, codes, IfOk, OnOk};
 ghost use Rattle.std.specs.Fmt.{decimal};
 ghost use Rattle.mqb_svg.specs.Sides.{other};
-ghost use Rattle.mqb_svg.specs.Svg.{escaped, shape_text, mark_name, mark_place, mark_text, fate_name, fate_word, arrow_place, arrow_text, landing, bar_text, line_text, element_text, row_text, rows_from, TOP, ROW, style_text, shapes_text, names_text, lifelines_text, head_text, svg_of, MOST_ELEMENTS};
+ghost use Rattle.mqb_svg.specs.Svg.{escaped, shape_text, mark_name, mark_place, mark_text};
+ghost use Rattle.mqb_svg.specs.Svg.{fate_name, fate_word, arrow_place, arrow_text, landing};
+ghost use Rattle.mqb_svg.specs.Svg.{bar_text, line_text, element_text, row_text, rows_from, TOP};
+ghost use Rattle.mqb_svg.specs.Svg.{ROW, style_text, shapes_text, names_text, lifelines_text};
+ghost use Rattle.mqb_svg.specs.Svg.{head_text, svg_of, MOST_ELEMENTS};
 
 use crate::elements::Element;
 use crate::fates::Fate;
@@ -57,7 +61,8 @@ fn fate_word(fate: Fate) -> &'static [u8]
     }
 }
 
-/// The end of an arrow's shape, which is drawn from alpha and turned round where it comes from beta, and the place of its label.
+/// The end of an arrow's shape, which is drawn from alpha and turned round where it comes from
+/// beta, and the place of its label.
 fn arrow_place(from: Side) -> &'static [u8]
     ensures { result.now ≡ arrow_place from }
 {

@@ -5,7 +5,8 @@ use Rattle.mqb_plain.specs.Plain.{PlainLists, PlainRooms}
 use Rattle.mqb_tables.specs.Rooms.{MemberRooms}
 
 -- members and their rooms, each as it is seen
-abbrev pub seen_members : {X Y R : Type 0} → (X → Y) → (X → R) → Room X → WithRooms (List Y) (MemberRooms R)
+abbrev pub seen_members : {X Y R : Type 0} → (X → Y) → (X → R) → Room X
+    → WithRooms (List Y) (MemberRooms R)
 seen_members see room members = record {
   lists = map see members.items;
   rooms = record { each = map room members.items; more = members.room };

@@ -39,7 +39,8 @@ pub fn number_of(in_use: &IndexMap<OutKey, u32>, peer: u32, destination: &QueueN
     in_use.get(OutRef { peer, destination }).copied()
 }
 
-/// Enters a peer and a destination that the table does not have. It may lead from them to any number.
+/// Enters a peer and a destination that the table does not have. It may lead
+/// from them to any number.
 pub fn make_room(
     in_use: &mut IndexMap<OutKey, u32>,
     peer: u32,

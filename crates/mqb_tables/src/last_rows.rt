@@ -1,5 +1,6 @@
 //! The last outgoing row that leads to a destination, and the table that leads to its ordinal.
-ghost use Rattle.std.specs.Prelude.{◌≡◌, ◌<◌, IfSome, None, Some, false, filter, length, map, option_and_then, slice_get};
+ghost use Rattle.std.specs.Prelude.{◌≡◌, ◌<◌, IfSome, None, Some, false, filter, length, map};
+ghost use Rattle.std.specs.Prelude.{option_and_then, slice_get};
 ghost use Rattle.std.specs.List.{last_or};
 ghost use Rattle.std.specs.Option.{option_map_or};
 ghost use Rattle.indexmap.specs.IndexMap.{get, keys};
@@ -43,8 +44,8 @@ pub fn index_of_last(rows: &[OutRow], peer: u32, destination: &QueueName) -> Opt
     last
 }
 
-/// The table leads from a peer and a destination, which it has, to the ordinal of the last row that has them, where there is one. It takes no
-/// memory.
+/// The table leads from a peer and a destination, which it has, to the ordinal of the last row that
+/// has them, where there is one. It takes no memory.
 pub fn lead_to_last(
     in_use: &mut IndexMap<OutKey, u32>,
     rows: &[OutRow],

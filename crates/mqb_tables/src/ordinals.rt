@@ -1,5 +1,6 @@
 //! The table that leads from the ordinals of outgoing rows to their places in the list.
-ghost use Rattle.std.specs.Prelude.{◌≡◌, ℕ, ◌+◌, ◌<◌, ◌≤◌, ◌==◌, None, Some, OnOk, if◌then◌else◌, length, map, nat_eq};
+ghost use Rattle.std.specs.Prelude.{◌≡◌, ℕ, ◌+◌, ◌<◌, ◌≤◌, ◌==◌, None, Some, OnOk, if◌then◌else◌};
+ghost use Rattle.std.specs.Prelude.{length, map, nat_eq};
 ghost use Rattle.indexmap.specs.IndexMap.{IsUnchanged, get, index_map_len, spare};
 ghost use Rattle.mqb_tables.specs.Tables.{HaveOwnOrdinals, LeadsTo};
 ghost use Rattle.mqb_orders.specs.Rows.{row_of};

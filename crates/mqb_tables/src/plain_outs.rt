@@ -1,4 +1,5 @@
-ghost use Rattle.std.specs.Prelude.{◌≡◌, ◌<◌, ◌≤◌, [], ◌∷◌, ◌++◌, IsSomeAnd, OnOk, Some, length, map, slice_get};
+ghost use Rattle.std.specs.Prelude.{◌≡◌, ◌<◌, ◌≤◌, [], ◌∷◌, ◌++◌, IsSomeAnd, OnOk, Some, length};
+ghost use Rattle.std.specs.Prelude.{map, slice_get};
 ghost use Rattle.mqb_tables.specs.Ends.{last_of, without_last};
 ghost use Rattle.mqb_tables.specs.Rooms.{AreMembersGrown, no_members, plain_room};
 ghost use Rattle.mqb_base.specs.declared.message.Lane.{Lane};
@@ -14,8 +15,8 @@ use mqb_plain::{Outgoing, PlainOut};
 use std::alloc::Global;
 use std::marker::Model;
 
-/// The plain messages that wait for each peer. Contracts see them, and beside them how many messages each peer can have without memory, and how
-/// many peers there can be.
+/// The plain messages that wait for each peer. Contracts see them, and beside them how many
+/// messages each peer can have without memory, and how many peers there can be.
 #[derive(Debug, Drop)]
 pub struct PlainOuts {
     peers: Roomed<PlainOut>,
@@ -113,7 +114,8 @@ impl PlainOuts {
         count_in(self.get(peer), lane)
     }
 
-    /// A message of a lane waits for a peer before the one at an index, or at the end, where there is room.
+    /// A message of a lane waits for a peer before the one at an index, or at the end,
+    /// where there is room.
     pub fn insert(&mut self, peer: u32, lane: Lane, index: u32, outgoing: Outgoing)
         requires can { IsSomeAnd (slice_get self.old.lists peer) (CanWait lane index outgoing) }
         requires room { plain_count self.old.lists peer lane < plain_room self.old.rooms peer lane }

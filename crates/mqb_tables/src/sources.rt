@@ -1,4 +1,5 @@
-//! The table that leads from the sources and destinations of incoming rows to their places in the list.
+//! The table that leads from the sources and destinations of incoming rows to
+//! their places in the list.
 ghost use Rattle.std.specs.Prelude.{◌≡◌, ℕ, OnOk, Some, if◌then◌else◌};
 ghost use Rattle.std.specs.Cmp.Rules.{hashing};
 ghost use Rattle.std.proofs.Common.{rules};
@@ -48,7 +49,8 @@ pub fn number_of(
         .copied()
 }
 
-/// Enters a source and a destination that the table does not have. It may lead from them to any number.
+/// Enters a source and a destination that the table does not have. It may lead
+/// from them to any number.
 pub fn make_room(
     sources: &mut IndexMap<InKey, u32>,
     source: Guid,

@@ -16,8 +16,11 @@ origin_of from.OfRecoverable = OfRecoverable
 origin_of from.OfExpress = OfExpress
 origin_of (from.OfRow row number) = beside.OfRow row number
 
--- A plain message that was sent is the next for its peer, recoverable ones before express ones, and its number is above those that its list has.
+-- A plain message that was sent is the next for its peer, recoverable ones before express ones, and
+-- its number is above those that its list has.
 abbrev pub CanNote : ℕ → SessionHead → State → Origin → Type 0
-CanNote peer head s OfRecoverable = IsSomeAnd (slice_get s.plain peer) (λ p. IsSome (first_unsent p.recoverable) × MaySend p head)
-CanNote peer head s OfExpress = IsSomeAnd (slice_get s.plain peer) (λ p. IsNone (first_unsent p.recoverable) × MaySend p head)
+CanNote peer head s OfRecoverable =
+    IsSomeAnd (slice_get s.plain peer) (λ p. IsSome (first_unsent p.recoverable) × MaySend p head)
+CanNote peer head s OfExpress =
+    IsSomeAnd (slice_get s.plain peer) (λ p. IsNone (first_unsent p.recoverable) × MaySend p head)
 CanNote peer head s _ = Unit {0}

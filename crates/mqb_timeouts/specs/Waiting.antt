@@ -1,6 +1,7 @@
 -- What waits until its time is over, and up to where none of it is due.
 use Rattle.std.specs.Option.{option_map_or}
-use Rattle.std.specs.Prelude.{[], ◌+◌, ◌≡◌, All, IfSome, List, Option, false, option_and_then, option_map, position, remove, slice_get, take, ℕ}
+use Rattle.std.specs.Prelude.{[], ◌+◌, ◌≡◌, All, IfSome, List, Option, false, option_and_then}
+use Rattle.std.specs.Prelude.{option_map, position, remove, slice_get, take, ℕ}
 use Rattle.mqb_base.specs.declared.class.TheConstants.Class.{REACH_TIMEOUT}
 use Rattle.mqb_base.specs.declared.ledger.Line.{Line}
 use Rattle.mqb_base.specs.declared.ledger.Line.TheVariants as line
@@ -16,7 +17,8 @@ use Rattle.mqb_queue.specs.Places.{lists_at}
 use Rattle.mqb_contents.specs.Rows.{keeping, with_out}
 use Rattle.mqb_model.specs.rules.Effects.{Effect, joined, with_line}
 use Rattle.mqb_model.specs.rules.Notices.{meets}
-use Rattle.mqb_model.specs.rules.Timeouts.{cannot_be_received, expires, expiring_in, lapses, lapsing_in, sweeping_in}
+use Rattle.mqb_model.specs.rules.Timeouts.{cannot_be_received, expires, expiring_in, lapses}
+use Rattle.mqb_model.specs.rules.Timeouts.{lapsing_in, sweeping_in}
 use Rattle.mqb_model.specs.state.Rows.{stream_of}
 use Rattle.mqb_model.specs.state.State.{State}
 
@@ -42,7 +44,8 @@ expired_count now s k = option_map_or (expiring_in now) (slice_get s.outs k) 0
 
 -- none of the first messages of the queue at an index is swept
 abbrev pub NoneSwept : Lane → ℕ → State → ℕ → ℕ → Type 0
-NoneSwept kind now s k count = All (λ m. cannot_be_received now m ≡ false) (take count (queued kind s k))
+NoneSwept kind now s k count =
+    All (λ m. cannot_be_received now m ≡ false) (take count (queued kind s k))
 
 -- none of the first plain messages for the peer at an index lapses
 abbrev pub NoneLapses : Lane → ℕ → State → ℕ → ℕ → Type 0
@@ -50,7 +53,8 @@ NoneLapses kind now s k count = All (λ o. lapses now o ≡ false) (take count (
 
 -- none of the first messages of the outgoing row at an index expires
 abbrev pub NoneExpires : ℕ → State → ℕ → ℕ → Type 0
-NoneExpires now s k count = IfSome (slice_get s.outs k) (λ row. All (λ x. expires now row x ≡ false) (take count row.kept))
+NoneExpires now s k count =
+    IfSome (slice_get s.outs k) (λ row. All (λ x. expires now row x ≡ false) (take count row.kept))
 
 -- the message that the outgoing row at an index keeps at an index
 abbrev pub kept_at : State → ℕ → ℕ → Option Kept
@@ -59,7 +63,8 @@ kept_at s k index = option_and_then (λ row. slice_get row.kept index) (slice_ge
 -- the line of it once it expires
 abbrev pub expired_line : ℕ → State → ℕ → ℕ → Option Line
 expired_line now s k index = option_and_then (λ row. option_map
-    (λ kept. line.Expired (stream_of s row) kept.number kept.message.id now) (slice_get row.kept index)) (slice_get s.outs k)
+    (λ kept. line.Expired (stream_of s row) kept.number kept.message.id now)
+    (slice_get row.kept index)) (slice_get s.outs k)
 
 -- a row without it
 abbrev pub left_row : ℕ → Row → Row
@@ -67,13 +72,17 @@ left_row index row = keeping (remove row.kept index) row
 
 -- where the next one stands that expires
 abbrev pub expiring_index : ℕ → State → ℕ → Option ℕ
-expiring_index now s k = option_and_then (λ row. position (expires now row) row.kept) (slice_get s.outs k)
+expiring_index now s k =
+    option_and_then (λ row. position (expires now row) row.kept) (slice_get s.outs k)
 
 -- this message of a row expires, which is at an index
 abbrev pub kept_expired : ℕ → ℕ → ℕ → Effect → Row → Kept → Effect
-kept_expired now k index e row kept = joined e (with_line (line.Expired (stream_of e.state row) kept.number kept.message.id now)
+kept_expired now k index e row kept =
+    joined e (with_line (line.Expired (stream_of e.state row) kept.number kept.message.id now)
     (meets (with_out (left_row index) e.state k) kept.message REACH_TIMEOUT now))
 
 -- the message at an index does, where it is there
 abbrev pub expired_at : ℕ → ℕ → ℕ → Effect → Effect
-expired_at now k index e = option_map_or (λ row. option_map_or (kept_expired now k index e row) (slice_get row.kept index) e) (slice_get e.state.outs k) e
+expired_at now k index e = option_map_or
+    (λ row. option_map_or (kept_expired now k index e row) (slice_get row.kept index) e)
+    (slice_get e.state.outs k) e

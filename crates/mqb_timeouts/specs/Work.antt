@@ -19,7 +19,8 @@ beside_of (work.Ticks now) = beside.TicksExpress now
 beside_of (work.Drops peer number) = beside.DropsExpress peer number
 beside_of (work.Hears peer number now m refusal) = beside.HearsExpress peer number now m refusal
 
--- How many express messages it sends, takes, purges, sweeps, or hears. What it makes is at most three times as many.
+-- How many express messages it sends, takes, purges, sweeps, or hears. What it makes is at most
+-- three times as many.
 abbrev pub express_count : State → ExpressWork → ℕ
 express_count s work.Nothing = 0
 express_count s (work.Sends now m) = 1

@@ -10,7 +10,8 @@ use mqb_contents::Contents;
 use mqb_plain::PlainOut;
 use mqb_rules::Draft;
 
-/// Whether the first express message was sent with a number up to this one. None was where it was not, for numbers rise.
+/// Whether the first express message was sent with a number up to this one. None was where it was
+/// not, for numbers rise.
 fn is_first_acked(plain: &PlainOut, number: u16) -> bool
     ensures first { result ≡ true → IsSomeAnd (slice_get plain.now.lists.express 0)
         (λ o. is_sent_by number o ≡ true) }

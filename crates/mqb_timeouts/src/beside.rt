@@ -81,7 +81,8 @@ fn work_in(draft: &mut Draft, work: ExpressWork) -> Result<(), Memory>
     }
 }
 
-/// What a call does to express messages is done, by the rules by which records are. The lines stay, also on a refusal.
+/// What a call does to express messages is done, by the rules by which records are. The lines
+/// stay, also on a refusal.
 pub fn beside_done(draft: &mut Draft, work: ExpressWork) -> Result<(), Memory>
     ensures ok { OnOk result (draft.new.effect.state ≡
         beside_done (beside_of work) draft.old.effect.state) }

@@ -1,4 +1,6 @@
-ghost use Rattle.std.specs.Prelude.{if◌then◌else◌, ◌≡◌, ◌+◌, ◌*◌, ◌<◌, ◌≤◌, All, IfOk, IfSome, IsSomeAnd, OnOk, Some, count_by, false, length, option_copied, position, slice_get, sum_by, take};
+ghost use Rattle.std.specs.Prelude.{if◌then◌else◌, ◌≡◌, ◌+◌, ◌*◌, ◌<◌, ◌≤◌, All, IfOk, IfSome};
+ghost use Rattle.std.specs.Prelude.{IsSomeAnd, OnOk, Some, count_by, false, length, option_copied};
+ghost use Rattle.std.specs.Prelude.{position, slice_get, sum_by, take};
 ghost use Rattle.std.specs.Option.{option_map};
 ghost use Rattle.mqb_base.specs.declared.class.TheConstants.Class.{REACH_TIMEOUT};
 ghost use Rattle.mqb_base.specs.declared.message.Lane.{Lane};
@@ -6,9 +8,11 @@ ghost use Rattle.mqb_contents.specs.Rooms.{IsGrown};
 ghost use Rattle.mqb_contents.specs.Rows.{with_out};
 ghost use Rattle.mqb_model.specs.rules.Effects.{joined, with_line};
 ghost use Rattle.mqb_model.specs.rules.Notices.{meets};
-ghost use Rattle.mqb_model.specs.rules.Timeouts.{expires, expiring_in, lane_due, next_expired, row_expired, rows_expired};
+ghost use Rattle.mqb_model.specs.rules.Timeouts.{expires, expiring_in, lane_due, next_expired};
+ghost use Rattle.mqb_model.specs.rules.Timeouts.{row_expired, rows_expired};
 ghost use Rattle.mqb_orders.specs.Rows.{row_of};
-ghost use Rattle.mqb_timeouts.specs.Waiting.{NoneExpires, expired_at, expired_count, expired_line, expiring_index, kept_at, left_row};
+ghost use Rattle.mqb_timeouts.specs.Waiting.{NoneExpires, expired_at, expired_count, expired_line};
+ghost use Rattle.mqb_timeouts.specs.Waiting.{expiring_index, kept_at, left_row};
 
 use crate::lapses::cannot_reach;
 use mqb_base::{Class, Line, Memory, Message, Stream};
@@ -117,7 +121,8 @@ fn expired_line(contents: &Contents, k: u32, index: u32, now: u32) -> Result<Lin
     })
 }
 
-/// The message that an outgoing row keeps at an index, of which these are the line and a copy, expires.
+/// The message that an outgoing row keeps at an index, of which these are the line
+/// and a copy, expires.
 fn expire(
     draft: &mut Draft,
     k: u32,
@@ -154,8 +159,8 @@ fn expire_at(draft: &mut Draft, k: u32, index: u32, now: u32) -> Result<(), Memo
     expire(draft, k, index, line, &message, now)
 }
 
-/// The next message of the outgoing row at an index expires, where there is one. No message before `from` does, and none before the answer does
-/// then.
+/// The next message of the outgoing row at an index expires, where there is one. No message before
+/// `from` does, and none before the answer does then.
 fn expire_next(draft: &mut Draft, k: u32, from: u32, now: u32) -> Result<u32, Memory>
     requires { NoneExpires now draft.old.effect.state k from }
     ensures ok { OnOk result (draft.new.effect ≡ next_expired now k draft.old.effect) }

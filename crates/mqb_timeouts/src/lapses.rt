@@ -1,9 +1,12 @@
-ghost use Rattle.std.specs.Prelude.{◌≡◌, ◌+◌, ◌*◌, ◌<◌, ◌≤◌, All, IfOk, IfSome, IsSomeAnd, OnOk, count_by, false, length, option_copied, position, slice_get, sum_by, take};
+ghost use Rattle.std.specs.Prelude.{◌≡◌, ◌+◌, ◌*◌, ◌<◌, ◌≤◌, All, IfOk, IfSome, IsSomeAnd, OnOk};
+ghost use Rattle.std.specs.Prelude.{count_by, false, length, option_copied, position, slice_get};
+ghost use Rattle.std.specs.Prelude.{sum_by, take};
 ghost use Rattle.std.specs.Option.{option_map, option_map_or};
 ghost use Rattle.mqb_contents.specs.Rooms.{IsGrown};
 ghost use Rattle.mqb_model.specs.Loops.{for_each_below};
 ghost use Rattle.mqb_model.specs.rules.Effects.{joined};
-ghost use Rattle.mqb_model.specs.rules.Timeouts.{cannot_reach, lapses, lapsing_in, message_lapsed, next_lapsed, peer_lapsed};
+ghost use Rattle.mqb_model.specs.rules.Timeouts.{cannot_reach, lapses, lapsing_in, message_lapsed};
+ghost use Rattle.mqb_model.specs.rules.Timeouts.{next_lapsed, peer_lapsed};
 ghost use Rattle.mqb_plain.specs.Lists.{messages_of};
 ghost use Rattle.mqb_plain.specs.Plain.{outgoing_in};
 ghost use Rattle.mqb_timeouts.specs.Waiting.{NoneLapses, lapsed_count, waiting};
@@ -166,7 +169,8 @@ fn lapse_at(draft: &mut Draft, lane: Lane, k: u32, index: u32, now: u32) -> Resu
     }
 }
 
-/// The next plain message for the peer at an index lapses, where there is one. No message before `from` does, and none before the answer does then.
+/// The next plain message for the peer at an index lapses, where there is one. No message before
+/// `from` does, and none before the answer does then.
 fn lapse_next(draft: &mut Draft, lane: Lane, k: u32, from: u32, now: u32) -> Result<u32, Memory>
     requires { NoneLapses lane now draft.old.effect.state k from }
     ensures ok { OnOk result (draft.new.effect ≡ next_lapsed lane now k draft.old.effect) }

@@ -16,8 +16,8 @@ pub enum Origin {
     OfRow { row: u32, number: u32 },
 }
 
-/// A packet was sent to a peer with this session header: an acknowledgement took an express number, and a plain message counts as sent. That takes no
-/// memory.
+/// A packet was sent to a peer with this session header: an acknowledgement took an express number,
+/// and a plain message counts as sent. That takes no memory.
 pub fn note_sent(contents: &mut Contents, peer: u32, origin: Origin, head: &SessionHead)
     requires { CanNote peer head.now contents.old.lists (origin_of origin) }
     ensures lists { contents.new.lists ≡

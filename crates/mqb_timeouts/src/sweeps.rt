@@ -1,4 +1,5 @@
-ghost use Rattle.std.specs.Prelude.{◌≡◌, ◌+◌, ◌*◌, ◌<◌, ◌≤◌, All, IfOk, IfSome, IsSomeAnd, OnOk, count_by, false, length, position, sum_by, take};
+ghost use Rattle.std.specs.Prelude.{◌≡◌, ◌+◌, ◌*◌, ◌<◌, ◌≤◌, All, IfOk, IfSome, IsSomeAnd, OnOk};
+ghost use Rattle.std.specs.Prelude.{count_by, false, length, position, sum_by, take};
 ghost use Rattle.std.specs.Option.{option_map_or};
 ghost use Rattle.mqb_base.specs.declared.queues.EntryPlace.TheVariants.{Queue};
 ghost use Rattle.mqb_contents.specs.Rooms.{IsGrown};
@@ -6,7 +7,8 @@ ghost use Rattle.mqb_model.specs.Loops.{for_each_below};
 ghost use Rattle.mqb_model.specs.declared.limits.TheConstants.{MAX_QUEUES};
 ghost use Rattle.mqb_model.specs.rules.Effects.{joined};
 ghost use Rattle.mqb_model.specs.rules.Takes.{message_at};
-ghost use Rattle.mqb_model.specs.rules.Timeouts.{cannot_be_received, message_swept, next_swept, queue_swept, sweeping_in};
+ghost use Rattle.mqb_model.specs.rules.Timeouts.{cannot_be_received, message_swept, next_swept};
+ghost use Rattle.mqb_model.specs.rules.Timeouts.{queue_swept, sweeping_in};
 ghost use Rattle.mqb_queue.specs.Lists.{messages_in};
 ghost use Rattle.mqb_queue.specs.Places.{lists_at};
 ghost use Rattle.mqb_timeouts.specs.Waiting.{NoneSwept, queued, swept_count};
@@ -117,7 +119,8 @@ fn sweep_at(draft: &mut Draft, lane: Lane, number: u32, index: u32, now: u32) ->
     }
 }
 
-/// The next message of the queue at an index is swept, where there is one. No message before `from` is, and none before the answer is then.
+/// The next message of the queue at an index is swept, where there is one. No message before `from`
+/// is, and none before the answer is then.
 fn sweep_next(draft: &mut Draft, lane: Lane, k: u32, from: u32, now: u32) -> Result<u32, Memory>
     requires few { k < MAX_QUEUES }
     requires none { NoneSwept lane now draft.old.effect.state k from }

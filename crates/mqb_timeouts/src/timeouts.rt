@@ -7,7 +7,8 @@ use crate::sweeps::sweep_queues;
 use mqb_base::{Lane, Memory};
 use mqb_rules::Draft;
 
-/// Plain messages of a lane that are due lapse, peer by peer, and then those of queues are swept, queue by queue.
+/// Plain messages of a lane that are due lapse, peer by peer, and then those of queues are
+/// swept, queue by queue.
 pub fn lane_ticked(draft: &mut Draft, lane: Lane, now: u32) -> Result<(), Memory>
     ensures ok { OnOk result (draft.new.effect ≡ lane_ticked lane now draft.old.effect) }
     ensures start { draft.new.start ≡ draft.old.start }

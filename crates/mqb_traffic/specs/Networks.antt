@@ -11,7 +11,11 @@ use Rattle.mqb_traffic.specs.declared.notes.Note.{Note}
 
 -- a connection leads from the one who asked to the other
 abbrev pub connection_of : Link → network.Connection
-connection_of l = record { number = l.number; first = index_of l.initiator; second = index_of (other l.initiator) }
+connection_of l = record {
+  number = l.number;
+  first = index_of l.initiator;
+  second = index_of (other l.initiator);
+}
 
 -- the connections that stand
 abbrev pub connections_of : Option Link → List network.Connection

@@ -7,7 +7,8 @@ pub struct Link {
     pub initiator: Which,
 }
 
-/// A packet that was sent to the other manager: by whom, in which connection, at which moment in seconds, and whether it was dropped.
+/// A packet that was sent to the other manager: by whom, in which connection, at which moment in
+/// seconds, and whether it was dropped.
 #[derive(Clone, Copy, Debug, PartialEq, Eq)]
 pub struct Note {
     pub sender: Which,

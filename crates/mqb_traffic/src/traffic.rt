@@ -1,4 +1,5 @@
-ghost use Rattle.std.specs.Prelude.{[], ◌+◌, ◌++◌, ◌<◌, ◌^◌, ◌≡◌, ◌≤◌, IfOk, OnOk, is_some, length, nat_lt, option_map, replicate};
+ghost use Rattle.std.specs.Prelude.{[], ◌+◌, ◌++◌, ◌<◌, ◌^◌, ◌≡◌, ◌≤◌, IfOk, OnOk, is_some, length};
+ghost use Rattle.std.specs.Prelude.{nat_lt, option_map, replicate};
 ghost use Rattle.mqb_model.specs.Lists.{with_changed};
 ghost use Rattle.mqb_model.specs.managers.Manager.{Manager};
 ghost use Rattle.mqb_network.specs.Changes as network;
@@ -6,7 +7,8 @@ ghost use Rattle.mqb_network.specs.Network.{is_connected, is_underway};
 ghost use Rattle.mqb_queue.specs.Places.{numbered};
 ghost use Rattle.mqb_script.specs.Managers.{other};
 ghost use Rattle.mqb_script.specs.declared.managers.Which.{Which};
-ghost use Rattle.mqb_traffic.specs.Networks.{index_of, marked, network_with, note_of, notes_of, parted_where};
+ghost use Rattle.mqb_traffic.specs.Networks.{index_of, marked, network_with, note_of};
+ghost use Rattle.mqb_traffic.specs.Networks.{notes_of, parted_where};
 
 use crate::notes::{Link, Note};
 use mqb_base::{Line, Memory};
@@ -14,7 +16,8 @@ use mqb_script::Which;
 use std::alloc::Global;
 use std::marker::Model;
 
-/// The connection that stands between two managers, a note for each packet that was ever sent, and the ledger.
+/// The connection that stands between two managers, a note for each packet that was ever
+/// sent, and the ledger.
 #[derive(Debug, Drop)]
 pub struct Traffic {
     link: Option<Link>,
@@ -135,7 +138,8 @@ impl Traffic {
         stood
     }
 
-    /// Notes that a manager sent so many packets at a moment in seconds, in the connection that stands.
+    /// Notes that a manager sent so many packets at a moment in seconds, in the
+    /// connection that stands.
     pub fn note_sent(&mut self, sender: Which, now: u32, count: u32) -> Result<(), Memory>
         requires { length self.old.notes + count < 2 ^ 63 }
         ensures { OnOk result ((alpha beta : Manager) → network_with alpha beta self.new ≡

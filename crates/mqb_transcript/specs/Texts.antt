@@ -1,4 +1,5 @@
-use Rattle.std.specs.Prelude.{ℕ, ◌+◌, ◌-◌, ◌/◌, ◌%◌, nat_lt, List, [], ◌∷◌, ◌++◌, codes, Option, Some, None, unwrap_or, if◌then◌else◌, find}
+use Rattle.std.specs.Prelude.{ℕ, ◌+◌, ◌-◌, ◌/◌, ◌%◌, nat_lt, List, [], ◌∷◌, ◌++◌, codes, Option}
+use Rattle.std.specs.Prelude.{Some, None, unwrap_or, if◌then◌else◌, find}
 use Rattle.std.specs.Option.{option_map}
 use Rattle.std.specs.List.{flat_map}
 use Rattle.std.specs.Fmt.{decimal}
@@ -8,7 +9,8 @@ use Rattle.mqb_base.specs.declared.ids.SequenceId.{SequenceId}
 use Rattle.mqb_base.specs.declared.ids.Identity.{Identity}
 use Rattle.mqb_base.specs.declared.class.Class.{Class}
 use Rattle.mqb_base.specs.declared.heard.Cause.{Cause}
-use Rattle.mqb_base.specs.declared.heard.Cause.TheVariants.{Early, BadAck, Refused, Repeated, Foreign}
+use Rattle.mqb_base.specs.declared.heard.Cause.TheVariants.{Early, BadAck, Refused}
+use Rattle.mqb_base.specs.declared.heard.Cause.TheVariants.{Repeated, Foreign}
 use Rattle.mqb_base.specs.declared.heard.Heard.{Heard}
 use Rattle.mqb_base.specs.declared.heard.Heard.TheVariants as heard
 use Rattle.mqb_base.specs.declared.ledger.Line.{Line}
@@ -32,7 +34,9 @@ numbers_text numbers = flat_map (λ n. spaced (decimal n)) numbers
 
 -- a manager is printed as its host, and one that is not among the hosts as its GUID
 unfoldable pub manager_text : List Identity → Guid → List ℕ
-manager_text hosts guid = unwrap_or (option_map (λ known. known.host) (find (λ known. same_guid known.guid guid) hosts)) (printed_guid guid)
+manager_text hosts guid =
+    unwrap_or (option_map (λ known. known.host) (find (λ known. same_guid known.guid guid) hosts))
+    (printed_guid guid)
 
 unfoldable pub id_text : List Identity → MessageId → List ℕ
 id_text hosts id = manager_text hosts id.qm ++ codes "." ++ decimal id.number
@@ -47,19 +51,25 @@ hex_digit n = if nat_lt n 10 then 48 + n else 65 + (n - 10)
 
 -- four hexadecimal digits
 unfoldable pub class_text : Class → List ℕ
-class_text class = hex_digit (class.0 / 4096) ∷ hex_digit (class.0 / 256 % 16) ∷ hex_digit (class.0 / 16 % 16) ∷ hex_digit (class.0 % 16) ∷ []
+class_text class = hex_digit (class.0 / 4096) ∷ hex_digit (class.0 / 256 % 16)
+    ∷ hex_digit (class.0 / 16 % 16) ∷ hex_digit (class.0 % 16) ∷ []
 
 -- Ledger lines.
 
 unfoldable pub line_text : List Identity → Line → List ℕ
-line_text hosts (line.Committed stream number id) = codes "committed " ++ place_text stream.sequence number ++ spaced (id_text hosts id)
-line_text hosts (line.Expired stream number id moment) = codes "expired " ++ place_text stream.sequence number ++ spaced (id_text hosts id)
-line_text hosts (line.Put stream number id) = codes "put " ++ place_text stream.sequence number ++ spaced (id_text hosts id)
+line_text hosts (line.Committed stream number id) =
+    codes "committed " ++ place_text stream.sequence number ++ spaced (id_text hosts id)
+line_text hosts (line.Expired stream number id moment) =
+    codes "expired " ++ place_text stream.sequence number ++ spaced (id_text hosts id)
+line_text hosts (line.Put stream number id) =
+    codes "put " ++ place_text stream.sequence number ++ spaced (id_text hosts id)
 line_text hosts (line.Refused stream number class id) =
-    codes "refused " ++ place_text stream.sequence number ++ spaced (class_text class) ++ spaced (id_text hosts id)
+    codes "refused " ++ place_text stream.sequence number ++ spaced (class_text class)
+    ++ spaced (id_text hosts id)
 line_text hosts (line.Local id) = codes "local " ++ id_text hosts id
 line_text hosts (line.Stored id) = codes "stored " ++ id_text hosts id
-line_text hosts (line.Bounced class id) = codes "bounced " ++ class_text class ++ spaced (id_text hosts id)
+line_text hosts (line.Bounced class id) =
+    codes "bounced " ++ class_text class ++ spaced (id_text hosts id)
 line_text hosts (line.Released id) = codes "released " ++ id_text hosts id
 line_text hosts (line.Took id) = codes "took " ++ id_text hosts id
 line_text hosts (line.Emptied id) = codes "emptied " ++ id_text hosts id
@@ -88,16 +98,20 @@ heard_text hosts heard.SetUp = codes "setup"
 heard_text hosts heard.Session = codes "session"
 heard_text hosts (heard.Put sequence number) = codes "put"
 heard_text hosts (heard.Refused sequence number class) = codes "refused " ++ class_text class
-heard_text hosts (heard.Duplicate sequence number) = codes "duplicate " ++ place_text sequence number
+heard_text hosts (heard.Duplicate sequence number) =
+    codes "duplicate " ++ place_text sequence number
 heard_text hosts (heard.Gap sequence number) = codes "gap " ++ place_text sequence number
 heard_text hosts (heard.Stale sequence number) = codes "stale " ++ place_text sequence number
 heard_text hosts heard.Stored = codes "stored"
 heard_text hosts (heard.Bounced class) = codes "bounced " ++ class_text class
 heard_text hosts (heard.ExpressPut id) = codes "express " ++ id_text hosts id
-heard_text hosts (heard.ExpressBounced class id) = codes "expressbounced " ++ class_text class ++ spaced (id_text hosts id)
-heard_text hosts (heard.OrderAcked ordinal number) = codes "acked " ++ decimal ordinal ++ spaced (decimal number)
+heard_text hosts (heard.ExpressBounced class id) =
+    codes "expressbounced " ++ class_text class ++ spaced (id_text hosts id)
+heard_text hosts (heard.OrderAcked ordinal number) =
+    codes "acked " ++ decimal ordinal ++ spaced (decimal number)
 heard_text hosts heard.OldAck = codes "oldack"
-heard_text hosts (heard.Final id class) = codes "final " ++ class_text class ++ spaced (id_text hosts id)
+heard_text hosts (heard.Final id class) =
+    codes "final " ++ class_text class ++ spaced (id_text hosts id)
 heard_text hosts heard.Discarded = codes "discarded"
 heard_text hosts (heard.Closed cause) = codes "closed " ++ cause_text cause
 
@@ -159,8 +173,10 @@ reply_text hosts (reply.QueueFull op) = codes "queuefull" ++ op_text op
 reply_text hosts (reply.SequenceSpent op) = codes "sequencespent" ++ op_text (Some op)
 reply_text hosts (reply.Sent id lines) = codes "sent " ++ id_text hosts id ++ lines_text hosts lines
 reply_text hosts (reply.Took id lines) = codes "took " ++ id_text hosts id ++ lines_text hosts lines
-reply_text hosts (reply.Purged count lines) = codes "purged " ++ decimal count ++ lines_text hosts lines
-reply_text hosts (reply.Ticked express lines) = codes "ticked " ++ decimal express ++ lines_text hosts lines
+reply_text hosts (reply.Purged count lines) =
+    codes "purged " ++ decimal count ++ lines_text hosts lines
+reply_text hosts (reply.Ticked express lines) =
+    codes "ticked " ++ decimal express ++ lines_text hosts lines
 reply_text hosts (reply.Connected packets) = codes "connected" ++ numbers_text packets
 reply_text hosts (reply.Pumped packets) = codes "pumped" ++ numbers_text packets
 reply_text hosts (reply.Heard heard lines) = heard_reply hosts heard lines

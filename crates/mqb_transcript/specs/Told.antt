@@ -8,7 +8,8 @@ use Rattle.mqb_transcript.specs.declared.arrivals.Outcome.TheVariants as outcome
 use Rattle.mqb_transcript.specs.declared.replies.Reply.{Reply}
 use Rattle.mqb_transcript.specs.declared.replies.Reply.TheVariants as reply
 
--- whether a disk stopped or failed, whether the record of a call that failed was kept or lost, whether a store was too far on, or none of these
+-- whether a disk stopped or failed, whether the record of a call that failed was kept or lost,
+-- whether a store was too far on, or none of these
 pub data Told : Type 0 where
   stopped : Told
   failed : Told

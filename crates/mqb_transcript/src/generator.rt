@@ -1,7 +1,9 @@
 ghost use Rattle.std.specs.Prelude.{◌≡◌, ◌++◌, ◌≤◌, codes, OnOk, OnErr};
 ghost use Rattle.std.specs.List.{flat_map, range_with_len};
 ghost use Rattle.mqb_transcript.specs.Printing.{wrote};
-ghost use Rattle.mqb_transcript.specs.Generator.{order_text, order_of, block_count, commit_text, connect_text, broken_text, flow_text, flows_text, breaks_text, block_text, generated};
+ghost use Rattle.mqb_transcript.specs.Generator.{order_text, order_of, block_count, commit_text};
+ghost use Rattle.mqb_transcript.specs.Generator.{connect_text, broken_text, flow_text, flows_text};
+ghost use Rattle.mqb_transcript.specs.Generator.{breaks_text, block_text, generated};
 
 use crate::printer::Printer;
 use mqb_base::Memory;
@@ -156,8 +158,8 @@ impl<'h> Printer<'h> {
     }
 }
 
-/// Appends the script of `n` orders that alpha sends to beta, four in a transaction, with two disconnections and a restart of each manager. After
-/// a refusal `out` is as before.
+/// Appends the script of `n` orders that alpha sends to beta, four in a transaction, with two
+/// disconnections and a restart of each manager. After a refusal `out` is as before.
 #[tactic(auto, using(crate::specs::lemmas::Wrote::text_wrote))]
 pub fn make_script(alloc: Global, n: u32, out: &mut Vec<u8>) -> Result<(), Memory>
     requires least { 1 ≤ n }

@@ -1,6 +1,7 @@
 ghost use Rattle.std.specs.Prelude.{◌≡◌, ◌++◌, codes, OnOk};
 ghost use Rattle.mqb_transcript.specs.Printing.{wrote};
-ghost use Rattle.mqb_transcript.specs.Texts.{spaced, class_text, id_text, place_text, line_text, bracketed, lines_text};
+ghost use Rattle.mqb_transcript.specs.Texts.{spaced, class_text, id_text, place_text, line_text};
+ghost use Rattle.mqb_transcript.specs.Texts.{bracketed, lines_text};
 
 use crate::printer::Printer;
 use mqb_base::{Class, Line, Memory, MessageId, SequenceId};
@@ -16,7 +17,8 @@ impl<'h> Printer<'h> {
         id: &MessageId,
     ) -> Result<(), Memory>
         ensures { OnOk result (self.new ≡ wrote self.old
-            (word.now ++ place_text sequence.now number ++ spaced (id_text self.old.hosts id.now))) }
+            (word.now ++ place_text sequence.now number
+            ++ spaced (id_text self.old.hosts id.now))) }
     {
         self.placed(word, sequence, number)?;
         self.about(b" ", id)
@@ -41,7 +43,8 @@ impl<'h> Printer<'h> {
         id: &MessageId,
     ) -> Result<(), Memory>
         ensures { OnOk result (self.new ≡ wrote self.old
-            (codes "refused " ++ place_text sequence.now number ++ spaced (class_text class) ++ spaced (id_text self.old.hosts id.now))) }
+            (codes "refused " ++ place_text sequence.now number ++ spaced (class_text class)
+            ++ spaced (id_text self.old.hosts id.now))) }
     {
         self.placed(b"refused ", sequence, number)?;
         self.classed(b" ", class)?;

@@ -1,7 +1,8 @@
 //! The replies of a replay, and their texts.
 //!
-//! `Texts` of the definitions has the text of each reply. `print_reply` writes a line of a transcript, `make_script` a script with orders in it.
-//! A `Printer` has the parts that all printed texts share, for crates above too.
+//! `Texts` of the definitions has the text of each reply. `print_reply` writes a line of a
+//! transcript, `make_script` a script with orders in it. A `Printer` has the parts that all printed
+//! texts share, for crates above too.
 #![tactic(auto)]
 
 mod arrivals;

@@ -4,7 +4,8 @@ use mqb_base::Memory;
 use std::alloc::Global;
 use std::marker::Model;
 
-/// What a reply tells in a row, such as ledger lines or the numbers of packets. Contracts see the list.
+/// What a reply tells in a row, such as ledger lines or the numbers of packets.
+/// Contracts see the list.
 #[derive(Debug, Drop)]
 pub struct Listed<T> {
     items: Vec<T>,

@@ -4,7 +4,8 @@ ghost use Rattle.std.specs.Option.{option_copied};
 ghost use Rattle.mqb_base.specs.Same.{same_guid};
 ghost use Rattle.mqb_names.specs.Printed.{printed, printed_guid};
 ghost use Rattle.mqb_transcript.specs.Printing.{wrote};
-ghost use Rattle.mqb_transcript.specs.Texts.{spaced, numbers_text, manager_text, id_text, place_text, hex_digit, class_text};
+ghost use Rattle.mqb_transcript.specs.Texts.{spaced, numbers_text, manager_text, id_text};
+ghost use Rattle.mqb_transcript.specs.Texts.{place_text, hex_digit, class_text};
 
 use itoa::Buffer;
 use mqb_base::{Class, Guid, Identity, Memory, MessageId, QueueName, SequenceId};
@@ -12,8 +13,8 @@ use mqb_names::{write_guid, write_name};
 use std::alloc::Global;
 use std::marker::Model;
 
-/// A text that is being printed, and the managers that are printed as their hosts. After a refusal a part of what was asked may stand in it.
-/// Contracts see both.
+/// A text that is being printed, and the managers that are printed as their hosts. After a refusal
+/// a part of what was asked may stand in it. Contracts see both.
 #[derive(Drop)]
 pub struct Printer<'h> {
     hosts: &'h [Identity],

@@ -2,8 +2,9 @@ use crate::arrivals::Arrival;
 use crate::lists::Listed;
 use mqb_base::{Heard, Line, MessageId};
 
-/// What the managers answer to a line of a script. `lines` are the ledger lines of the record that the line wrote or found kept. Where the
-/// refusal of a `commit` is that of one of its ops, `op` is the op's place, from 0.
+/// What the managers answer to a line of a script. `lines` are the ledger lines of the record that
+/// the line wrote or found kept. Where the refusal of a `commit` is that of one of its ops, `op` is
+/// the op's place, from 0.
 #[derive(Debug, Drop)]
 pub enum Reply {
     /// `ok`

@@ -1,7 +1,10 @@
 ghost use Rattle.std.specs.Prelude.{◌≡◌, ◌++◌, codes, OnOk, OnErr};
 ghost use Rattle.std.specs.Fmt.{decimal};
 ghost use Rattle.mqb_transcript.specs.Printing.{wrote};
-ghost use Rattle.mqb_transcript.specs.Texts.{numbers_text, id_text, lines_text, cause_text, heard_text, heard_reply, outcome_text, arrival_text, arrivals_text, op_text, words_text, reply_text, number_text, printed};
+ghost use Rattle.mqb_transcript.specs.Texts.{numbers_text, id_text, lines_text, cause_text};
+ghost use Rattle.mqb_transcript.specs.Texts.{heard_text, heard_reply, outcome_text, arrival_text};
+ghost use Rattle.mqb_transcript.specs.Texts.{arrivals_text, op_text, words_text, reply_text};
+ghost use Rattle.mqb_transcript.specs.Texts.{number_text, printed};
 
 use crate::arrivals::{Arrival, Outcome};
 use crate::printer::Printer;
@@ -261,8 +264,9 @@ impl<'h> Printer<'h> {
     }
 }
 
-/// Appends a line of the transcript: the script's line number, where there is one, and the reply with its ledger lines. A GUID of `hosts` is
-/// printed as its host. After a refusal `out` is as before.
+/// Appends a line of the transcript: the script's line number, where there is one, and
+/// the reply with its ledger lines. A GUID of `hosts` is printed as its host. After a
+/// refusal `out` is as before.
 #[tactic(auto, using(crate::specs::lemmas::Wrote::text_wrote))]
 pub fn print_reply(
     alloc: Global,

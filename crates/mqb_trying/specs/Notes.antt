@@ -13,8 +13,8 @@ use Rattle.mqb_trying.specs.declared.notes.PlannedOp.TheVariants.{Send, Take}
 use Rattle.mqb_trying.specs.declared.notes.SequenceEnd.{SequenceEnd}
 use Rattle.mqb_trying.specs.declared.notes.Take as take
 
--- what was taken, for each message that was put here the number of its queue, how far sequences came, the next numbers, and what the record and
--- the answer have of the ops
+-- what was taken, for each message that was put here the number of its queue, how far sequences
+-- came, the next numbers, and what the record and the answer have of the ops
 pub record Noted : Type 0 where
   pub takes : List take.Take
   pub puts : List ℕ

@@ -1,6 +1,8 @@
 -- Where the next message that is sent goes.
 use Rattle.std.specs.Option.{option_map_or}
-use Rattle.std.specs.Prelude.{[], ◌&&◌, ◌++◌, ◌+◌, ◌-◌, ◌==◌, ◌∷◌, ◌≤◌, Bool, Err, List, None, Ok, Option, Result, Some, false, filter, fold, if◌then◌else◌, length, nat_le, nat_lt, not, option_and_then, option_map, set, slice_get, ℕ}
+use Rattle.std.specs.Prelude.{[], ◌&&◌, ◌++◌, ◌+◌, ◌-◌, ◌==◌, ◌∷◌, ◌≤◌, Bool, Err, List, None, Ok}
+use Rattle.std.specs.Prelude.{Option, Result, Some, false, filter, fold, if◌then◌else◌, length}
+use Rattle.std.specs.Prelude.{nat_le, nat_lt, not, option_and_then, option_map, set, slice_get, ℕ}
 use Rattle.mqb_base.specs.Same.{same_name}
 use Rattle.mqb_base.specs.declared.draft.Parts.{Parts}
 use Rattle.mqb_base.specs.declared.ids.Guid.{Guid}
@@ -36,7 +38,8 @@ use Rattle.mqb_trying.specs.Notes.{Noted}
 abbrev pub count_in : ℕ → List ℕ → ℕ
 count_in number puts = length (filter (λ n. n == number) puts)
 
--- a transactional queue of this length takes a message while that, with those that were put, is below its quota
+-- a transactional queue of this length takes a message while that, with those that were
+-- put, is below its quota
 abbrev pub put_by : QueuePlan → ℕ → List ℕ → ℕ → Result Route OpFault
 put_by plan len puts number = if not plan.transactional then Err op_fault.NotTransactional
     else if nat_le plan.quota (len + count_in number puts) then Err op_fault.QueueFull
@@ -55,13 +58,17 @@ end_of r = (r.sequence, r.committed)
 abbrev pub leads_to : ℕ → QueueName → SequenceEnd → Bool
 leads_to peer destination e = e.peer == peer && same_name e.destination destination
 
--- how far the last sequence to a destination at a peer has come, where it had come so far before one was taken to an end
-abbrev pub end_with : ℕ → QueueName → Option (SequenceId × ℕ) → SequenceEnd → Option (SequenceId × ℕ)
-end_with peer destination last e = if leads_to peer destination e then Some (e.sequence, e.number) else last
+-- how far the last sequence to a destination at a peer has come, where it had come so far before
+-- one was taken to an end
+abbrev pub end_with : ℕ → QueueName → Option (SequenceId × ℕ) → SequenceEnd
+    → Option (SequenceId × ℕ)
+end_with peer destination last e =
+    if leads_to peer destination e then Some (e.sequence, e.number) else last
 
 -- how far it has come, where there is one
 abbrev pub last_end : State → List SequenceEnd → ℕ → QueueName → Option (SequenceId × ℕ)
-last_end s ends peer destination = fold (end_with peer destination) (option_map end_of (last_sequence s peer destination)) ends
+last_end s ends peer destination =
+    fold (end_with peer destination) (option_map end_of (last_sequence s peer destination)) ends
 
 -- it is not full
 abbrev pub unless_full : ℕ → SequenceId × ℕ → Option (SequenceId × ℕ)
@@ -77,7 +84,8 @@ peer_route s n peer destination = option_map_or (λ last. Ok (Join peer last.0 (
 
 abbrev pub route_to : State → Noted → QueueName → Target → Result Route OpFault
 route_to s n destination (target.Here None) = Err op_fault.NoQueue
-route_to s n destination (target.Here (Some number)) = option_map_or (put_route n.puts number) (numbered s.places.queues number) (Err op_fault.NoQueue)
+route_to s n destination (target.Here (Some number)) =
+    option_map_or (put_route n.puts number) (numbered s.places.queues number) (Err op_fault.NoQueue)
 route_to s n destination (target.AtPeer k) = peer_route s n k destination
 route_to s n destination target.Nowhere = Err op_fault.UnknownPeer
 
@@ -110,16 +118,19 @@ with_put n queue m = record n { puts = n.puts ++ queue ∷ []; done = n.done ++ 
 
 -- the last end leads to a destination at a peer
 abbrev pub last_leads_to : ℕ → QueueName → List SequenceEnd → Bool
-last_leads_to peer destination ends = option_map_or (leads_to peer destination) (slice_get ends (length ends - 1)) false
+last_leads_to peer destination ends =
+    option_map_or (leads_to peer destination) (slice_get ends (length ends - 1)) false
 
 -- a sequence came to an end: it stands in the place of the last one, where that leads to the same
 abbrev pub with_end : List SequenceEnd → SequenceEnd → List SequenceEnd
-with_end ends e = if last_leads_to e.peer e.destination ends then set ends (length ends - 1) e else ends ++ e ∷ []
+with_end ends e =
+    if last_leads_to e.peer e.destination ends then set ends (length ends - 1) e else ends ++ e ∷ []
 
 -- a message joined a sequence under a number
 abbrev pub with_join : Noted → ℕ → Message → SequenceId → ℕ → Noted
 with_join n peer m sequence number = record n {
-  ends = with_end n.ends (record { peer = peer; destination = m.destination; sequence = sequence; number = number });
+  ends = with_end n.ends
+      (record { peer = peer; destination = m.destination; sequence = sequence; number = number });
   done = n.done ++ done.Sent m.id sequence number ∷ [];
 }
 
@@ -127,11 +138,13 @@ with_join n peer m sequence number = record n {
 abbrev pub with_route : Noted → ℕ → Message → Route → Noted
 with_route n now m (Put queue) = with_put n queue m
 with_route n now m (Join peer sequence number) = with_join n peer m sequence number
-with_route n now m (Begin peer) = record (with_join n peer m (new_sequence n now) 1) { next_ordinal = n.next_ordinal + 1 }
+with_route n now m (Begin peer) =
+    record (with_join n peer m (new_sequence n now) 1) { next_ordinal = n.next_ordinal + 1 }
 
 -- a message was sent, and took a number
 abbrev pub with_send : Noted → Message → Guid → Noted
-with_send n m to = record n { next_number = n.next_number + 1; ops = n.ops ++ planned.Send m to ∷ [] }
+with_send n m to =
+    record n { next_number = n.next_number + 1; ops = n.ops ++ planned.Send m to ∷ [] }
 
 -- a message goes by a route to where that leads
 abbrev pub sent_by : State → Noted → ℕ → Message → Route → Noted
@@ -139,4 +152,5 @@ sent_by s n now m route = with_send (with_route n now m route) m (guid_at s (tar
 
 -- the next message is sent
 abbrev pub try_send : State → ℕ → Noted → Parts → Result Noted OpFault
-try_send s now n p = next_route s n p.destination >>= λ route. Ok (sent_by s n now (next_message s n now p) route)
+try_send s now n p =
+    next_route s n p.destination >>= λ route. Ok (sent_by s n now (next_message s n now p) route)

@@ -1,4 +1,5 @@
--- A trial as contracts see it: the ops of its record as an entry shows them, and what becomes of each.
+-- A trial as contracts see it: the ops of its record as an entry shows them, and
+-- what becomes of each.
 use Rattle.std.specs.Prelude.{List, map}
 use Rattle.mqb_entries.specs.Packets.{CanTell}
 use Rattle.mqb_entries.specs.declared.members.OpView.{OpView}

@@ -1,6 +1,7 @@
 -- How the ops of a transaction are tried one after another.
 use Rattle.std.specs.List.{list_any}
-use Rattle.std.specs.Prelude.{[], ◌+◌, ◌==◌, ◌||◌, ◌∷◌, ◌≡◌, Bool, Err, List, None, Ok, Option, Result, Some, false, if◌then◌else◌, length, map, nat_lt, ℕ}
+use Rattle.std.specs.Prelude.{[], ◌+◌, ◌==◌, ◌||◌, ◌∷◌, ◌≡◌, Bool, Err, List, None, Ok, Option}
+use Rattle.std.specs.Prelude.{Result, Some, false, if◌then◌else◌, length, map, nat_lt, ℕ}
 use Rattle.mqb_base.specs.declared.draft.Op.{Op}
 use Rattle.mqb_base.specs.declared.draft.Op.TheVariants as asked
 use Rattle.mqb_fields.specs.Reading.{◌>>=◌}
@@ -32,9 +33,11 @@ abbrev pub unless : {T : Type 0} → Option CommitFault → Result T CommitFault
 unless (Some why) outcome = Err why
 unless None outcome = outcome
 
--- the trial of a transaction, or the first reason against it, the manager left aside: what `commit` comes to in one that is up
+-- the trial of a transaction, or the first reason against it, the manager left aside: what `commit`
+-- comes to in one that is up
 abbrev pub tried : State → ℕ → List Op → Result Trial CommitFault
-tried s now ops = unless (count_refusal (length ops)) (try_ops now 0 (trial_of s) ops >>= λ t. unless (whole_refusal t) (Ok t))
+tried s now ops = unless (count_refusal (length ops))
+    (try_ops now 0 (trial_of s) ops >>= λ t. unless (whole_refusal t) (Ok t))
 
 -- it is refused for this reason, or for want of memory
 abbrev pub IsRefusedBy : {T : Type 0} → Result T CommitFault → CommitFault → Type 0
@@ -56,7 +59,8 @@ try_op s now n (asked.Send p) = try_send s now n p
 -- ops from an index on, up to the first that fails
 abbrev pub try_all : State → ℕ → ℕ → Noted → List Op → Result Noted CommitFault
 try_all s now index n [] = Ok n
-try_all s now index n (op ∷ ops) = at_op index (try_op s now n op) >>= λ next. try_all s now (index + 1) next ops
+try_all s now index n (op ∷ ops) =
+    at_op index (try_op s now n op) >>= λ next. try_all s now (index + 1) next ops
 
 -- the packet of an op is too large in a transaction
 abbrev pub is_large : PlannedOp → Bool

@@ -15,7 +15,8 @@ use mqb_base::Message;
 use mqb_model::{CommitFault, MAX_NUMBER, MAX_RECORD};
 use mqb_packet::{Headers, message_size};
 
-/// How many bytes the packet has by which a record tells of a message, unless that of the message is too large with the headers of a transaction.
+/// How many bytes the packet has by which a record tells of a message, unless that of the message
+/// is too large with the headers of a transaction.
 fn packet_size(message: &Message) -> Option<usize>
     requires { IsWellFormed message.now }
     ensures size { IfSome result (λ size. size ≡ message_size Bare message.now) }

@@ -1,7 +1,8 @@
 //! What a transaction comes to, as a plan over what a manager keeps: nothing changes.
 //!
-//! `try_ops` tries the ops of a transaction one after another, up to the first that fails, and answers the ops of its record, each send's message
-//! lent, and what became of each op. A take sees the takes before it and no send, and a send the sends before it and no take. The state is not
+//! `try_ops` tries the ops of a transaction one after another, up to the first that fails, and
+//! answers the ops of its record, each send's message lent, and what became of each op. A take sees
+//! the takes before it and no send, and a send the sends before it and no take. The state is not
 //! copied for that: what the ops before did to it is noted beside it.
 #![tactic(auto)]
 

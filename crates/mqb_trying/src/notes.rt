@@ -8,15 +8,16 @@ use mqb_model::Done;
 use std::alloc::Global;
 use std::marker::Model;
 
-/// A message that a transaction takes: it stands at an index among the durable messages of the queue of a number.
+/// A message that a transaction takes: it stands at an index among the durable messages of
+/// the queue of a number.
 #[derive(Clone, Copy, Debug, PartialEq, Eq)]
 pub(crate) struct Take {
     pub(crate) queue: u32,
     pub(crate) index: u32,
 }
 
-/// Where a message that a transaction sends goes: into the queue of a number, as the next of a sequence in use to the peer at an index, or as the
-/// first of a new one.
+/// Where a message that a transaction sends goes: into the queue of a number, as the next of a
+/// sequence in use to the peer at an index, or as the first of a new one.
 #[derive(Clone, Copy, Debug, PartialEq, Eq)]
 pub(crate) enum Route {
     Put {
@@ -48,8 +49,9 @@ pub(crate) enum PlannedOp {
     Take { queue: u32, id: MessageId },
 }
 
-/// What the ops that were tried did, beside a state that stays as it is: what they took, for each message that they put here the number of its
-/// queue, how far they took sequences, the numbers that are next, and what the record and the answer have of them.
+/// What the ops that were tried did, beside a state that stays as it is: what they took, for each
+/// message that they put here the number of its queue, how far they took sequences, the numbers
+/// that are next, and what the record and the answer have of them.
 #[derive(Debug, Drop)]
 pub(crate) struct Notes {
     pub(crate) takes: Vec<Take>,

@@ -1,10 +1,14 @@
 ghost use Rattle.std.specs.Option.{option_map_or};
-ghost use Rattle.std.specs.Prelude.{◌≡◌, ◌≤◌, ◌<◌, ◌^◌, ◌+◌, Err, IfErr, IfOk, None, Ok, OnOk, fold, option_map};
+ghost use Rattle.std.specs.Prelude.{◌≡◌, ◌≤◌, ◌<◌, ◌^◌, ◌+◌, Err, IfErr, IfOk, None, Ok, OnOk};
+ghost use Rattle.std.specs.Prelude.{fold, option_map};
 ghost use Rattle.mqb_model.specs.declared.faults.OpFault.TheVariants as op_fault;
 ghost use Rattle.mqb_model.specs.state.Rows.{last_sequence};
 ghost use Rattle.mqb_queue.specs.Places.{numbered};
 ghost use Rattle.mqb_trying.specs.Notes.{IsWritable};
-ghost use Rattle.mqb_trying.specs.Sends.{CanGo, count_in, end_of, last_end, last_leads_to, leads_to, next_route, peer_route, put_by, put_route, route_to, sent_by, target_of, try_send, with_end, with_join, with_put, with_route};
+ghost use Rattle.mqb_trying.specs.Sends.{CanGo, count_in, end_of, last_end, last_leads_to};
+ghost use Rattle.mqb_trying.specs.Sends.{leads_to, next_route, peer_route, put_by, put_route};
+ghost use Rattle.mqb_trying.specs.Sends.{route_to, sent_by, target_of, try_send, with_end};
+ghost use Rattle.mqb_trying.specs.Sends.{with_join, with_put, with_route};
 ghost use Rattle.mqb_trying.specs.Trying.{IsRefusedBy, at_op};
 ghost use Rattle.mqb_trying.specs.declared.notes.PlannedOp.TheVariants as planned;
 
@@ -25,7 +29,8 @@ fn count_in(queue: u32, puts: &[u32]) -> usize
     puts.iter().filter(|number| **number == queue).count()
 }
 
-/// A transactional queue of this length takes a message while that, with the messages that were put, is below its quota.
+/// A transactional queue of this length takes a message while that, with the messages that were
+/// put, is below its quota.
 fn put_by(plan: &QueuePlan, len: u32, puts: &[u32], queue: u32) -> Result<Route, OpFault>
     ensures { result ≡ put_by plan.now len puts.now queue }
 {
@@ -68,7 +73,8 @@ fn leads_to(end: &SequenceEnd, peer: u32, destination: &QueueName) -> bool
     end.peer == peer && same_name(&end.destination, destination)
 }
 
-/// How far the last sequence to a destination at a peer has come: the last end that leads there says it, or else its last row.
+/// How far the last sequence to a destination at a peer has come: the last end that leads there
+/// says it, or else its last row.
 fn last_end(
     contents: &Contents,
     ends: &[SequenceEnd],

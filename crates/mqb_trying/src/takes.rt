@@ -1,7 +1,10 @@
-ghost use Rattle.std.specs.Prelude.{◌≡◌, ◌<◌, ◌≤◌, ◌+◌, IfErr, IfOk, IfSome, IsSome, None, Ok, OnOk, Some, drop, length, option_copied, option_map};
+ghost use Rattle.std.specs.Prelude.{◌≡◌, ◌<◌, ◌≤◌, ◌+◌, IfErr, IfOk, IfSome, IsSome, None, Ok};
+ghost use Rattle.std.specs.Prelude.{OnOk, Some, drop, length, option_copied, option_map};
 ghost use Rattle.mqb_base.specs.declared.roomed.TheConstants.{MAX_MEMBERS};
 ghost use Rattle.mqb_queue.specs.Places.{numbered};
-ghost use Rattle.mqb_trying.specs.Takes.{comes_after, durable, index_from, last_index, mark_of, may_take, message_of_take, next_index, next_take, noted_take, take_by, take_of, top_from, try_take};
+ghost use Rattle.mqb_trying.specs.Takes.{comes_after, durable, index_from, last_index, mark_of};
+ghost use Rattle.mqb_trying.specs.Takes.{may_take, message_of_take, next_index, next_take};
+ghost use Rattle.mqb_trying.specs.Takes.{noted_take, take_by, take_of, top_from, try_take};
 ghost use Rattle.mqb_trying.specs.Trying.{IsRefusedBy, at_op};
 
 use crate::notes::{Notes, PlannedOp, Take, push_op};
@@ -94,7 +97,8 @@ fn index_at_least(
     None
 }
 
-/// Where the next one stands behind the last one that was taken: of the same priority, or else of the greatest one that is left.
+/// Where the next one stands behind the last one that was taken: of the same priority, or else of
+/// the greatest one that is left.
 fn index_behind(last: Mark, now: u32, messages: &SplitSlice<'_, Message>) -> Option<usize>
     ensures index { result ≡ next_index (Some last) now messages.now }
     ensures within { IfSome result (λ k. k < length messages.now) }

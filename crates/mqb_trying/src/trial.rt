@@ -11,7 +11,8 @@ use mqb_model::{Committed, Done, told_is_read};
 use std::alloc::Global;
 use std::marker::Model;
 
-/// A transaction whose ops passed. Contracts see the ops of its record as an entry shows them, and what becomes of each once it is written.
+/// A transaction whose ops passed. Contracts see the ops of its record as an entry shows them, and
+/// what becomes of each once it is written.
 #[derive(Debug, Drop)]
 pub struct Trial {
     ops: Vec<PlannedOp>,

@@ -1,4 +1,5 @@
-ghost use Rattle.std.specs.Prelude.{◌+◌, ◌<◌, ◌≡◌, ◌≤◌, ◌^◌, IfErr, IfOk, Ok, OnOk, Some, length, true};
+ghost use Rattle.std.specs.Prelude.{◌+◌, ◌<◌, ◌≡◌, ◌≤◌, ◌^◌, IfErr, IfOk, Ok, OnOk, Some};
+ghost use Rattle.std.specs.Prelude.{length, true};
 ghost use Rattle.std.specs.Result.{IsOkAnd};
 ghost use Rattle.mqb_entries.specs.declared.entry.Entry.TheVariants as form;
 ghost use Rattle.mqb_entries.specs.SpelledEntries.{Fits, spelled};
@@ -9,7 +10,8 @@ ghost use Rattle.mqb_model.specs.records.Record as entry;
 ghost use Rattle.mqb_model.specs.state.Valid.{IsValidState};
 ghost use Rattle.mqb_trying.specs.Notes.{nothing_noted};
 ghost use Rattle.mqb_trying.specs.Trials.{planned};
-ghost use Rattle.mqb_trying.specs.Trying.{IsRefusedBy, at_op, count_refusal, tried, try_all, try_op};
+ghost use Rattle.mqb_trying.specs.Trying.{IsRefusedBy, at_op, count_refusal, tried};
+ghost use Rattle.mqb_trying.specs.Trying.{try_all, try_op};
 
 use crate::counting::whole_fault;
 use crate::notes::Notes;
@@ -71,8 +73,8 @@ fn try_all(alloc: Global, contents: &Contents, ops: &[Op], now: u32) -> Result<N
     Ok(notes)
 }
 
-/// Tries the ops of a transaction. A refusal is the first reason against it in the order of `CommitFault`, or want of memory; a manager that is down is
-/// for its caller to refuse.
+/// Tries the ops of a transaction. A refusal is the first reason against it in the order of
+/// `CommitFault`, or want of memory; a manager that is down is for its caller to refuse.
 pub fn try_ops(
     alloc: Global,
     contents: &Contents,

@@ -19,4 +19,5 @@ counts_at Beta x = counts_with x.other x.own
 
 -- Each store has had as many more as were written of its manager.
 abbrev pub CountsGo : (counts counts_now : ℕ → ℕ) → List Written → Type 0
-CountsGo counts counts_now written = (which : Which) → counts_now (index_of which) ≡ counts (index_of which) + written_count (index_of which) written
+CountsGo counts counts_now written = (which : Which)
+    → counts_now (index_of which) ≡ counts (index_of which) + written_count (index_of which) written

@@ -16,7 +16,10 @@ use Rattle.mqb_turns.specs.Turns.{IsTurnWhere, answers_to}
 abbrev pub IsFarAsSaid : SeatState → Reply → Type 0
 IsFarAsSaid s given = (given ≡ reply.TooFar) ↔ ((is_down (seated s) ≡ false) × (is_far_on s ≡ true))
 
--- A turn of the network in which the disk may fail without a record, and a store of so many records be too far on; it is told so as the journal says.
-pub record IsRewriteTurn (which : Which) (x y : Side) (d e : View) (stopped : Bool) (given : Reply) : Type 0 where
-  pub turn : IsTurnWhere (may_rewrite (network_at which x) (index_of which) (records_of x.own)) which x y d e stopped (answers_to which x (Checkpoint (index_of which))) given
+-- A turn of the network in which the disk may fail without a record, and a store of so many records
+-- be too far on; it is told so as the journal says.
+pub record IsRewriteTurn (which : Which) (x y : Side) (d e : View) (stopped : Bool)
+    (given : Reply) : Type 0 where
+  pub turn : IsTurnWhere (may_rewrite (network_at which x) (index_of which) (records_of x.own))
+      which x y d e stopped (answers_to which x (Checkpoint (index_of which))) given
   pub far : IsFarAsSaid x.own given

@@ -1,4 +1,5 @@
--- What a call leaves between the managers: the lines of its record join the ledger, and a connection ends where a disk failed.
+-- What a call leaves between the managers: the lines of its record join the ledger, and a
+-- connection ends where a disk failed.
 use Rattle.std.specs.Prelude.{[], ◌≡◌, Bool, false, if◌then◌else◌, true}
 use Rattle.mqb_seats.specs.Holding.{StaysStored}
 use Rattle.mqb_network.specs.Changes.{ended, with_lines}
@@ -27,7 +28,8 @@ EndedWhere which false x y = y ≡ x
 
 -- The lines of the last record joined the ledger, where there was one.
 abbrev pub IsNoted : Which → Side → Side → Bool → Type 0
-IsNoted which x y recorded = (network_at which y ≡ with_lines (if recorded then x.own.manager.store.lines else []) (network_at which x))
+IsNoted which x y recorded = (network_at which y
+    ≡ with_lines (if recorded then x.own.manager.store.lines else []) (network_at which x))
     × (y.own ≡ x.own) × (y.other ≡ x.other)
 
 -- what became of a call is told, and leaves this

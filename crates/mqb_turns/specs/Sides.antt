@@ -1,4 +1,5 @@
--- Two managers with their disks and the traffic between them, as one of the two sees it, and the network that they make.
+-- Two managers with their disks and the traffic between them, as one of the two sees it, and the
+-- network that they make.
 use Rattle.mqb_seats.specs.Seats.{SeatState, seated}
 use Rattle.mqb_network.specs.Network.{Network}
 use Rattle.mqb_script.specs.declared.managers.Which.{Which}

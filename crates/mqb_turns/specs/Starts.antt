@@ -37,7 +37,8 @@ abbrev pub FailsInStart : (before after : ℕ) → network.Reply → Type 0
 FailsInStart before after (network.DiskFailed how) = Rose before after
 FailsInStart before after _ = after ≡ before
 
--- A start is told by the records of its manager: one more where the record in doubt was kept, and as many where it was lost, where there was none, or where the disk failed.
+-- A start is told by the records of its manager: one more where the record in doubt was kept, and
+-- as many where it was lost, where there was none, or where the disk failed.
 abbrev pub IsToldByRecords : Reply → (before after : ℕ) → Type 0
 IsToldByRecords (reply.OpenedKept lines) before after = after ≡ before + 1
 IsToldByRecords reply.OpenedLost before after = after ≡ before
@@ -45,15 +46,19 @@ IsToldByRecords reply.Opened before after = after ≡ before
 IsToldByRecords reply.Failed before after = after ≡ before
 IsToldByRecords _ before after = Unit {0}
 
--- A manager is started again: a choice that may be made comes to the reply and to the network, and the disks are held.
+-- A manager is started again: a choice that may be made comes to the reply and to the network,
+-- and the disks are held.
 pub record IsStarted (which : Which) (x y : Side) (d e : View) (given : Reply) : Type 0 where
   pub choice : Choice
   pub may : IsTrue (may_restart (network_at which x) (index_of which) choice)
   pub reply : told (answers_to which x (Restart (index_of which)) choice).reply ≡ Ok given
-  pub network : (answers_to which x (Restart (index_of which)) choice).after.network ≡ network_at which y
+  pub network : (answers_to which x (Restart (index_of which)) choice).after.network
+      ≡ network_at which y
   pub sent : (answers_to which x (Restart (index_of which)) choice).after.sent ≡ []
-  pub counted : CountsGo (counts_at which x) (counts_at which y) (answers_to which x (Restart (index_of which)) choice).after.written
+  pub counted : CountsGo (counts_at which x) (counts_at which y)
+      (answers_to which x (Restart (index_of which)) choice).after.written
   pub held : IsHeldOn e y.own
   pub beside : StaysStored x.other y.other
   pub records : IsToldByRecords given (records_of x.own) (records_of y.own)
-  pub faults : FailsInStart d.faults e.faults (answers_to which x (Restart (index_of which)) choice).reply
+  pub faults :
+      FailsInStart d.faults e.faults (answers_to which x (Restart (index_of which)) choice).reply

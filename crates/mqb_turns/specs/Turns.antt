@@ -23,12 +23,15 @@ answers_to which x e choice = step (network_at which x) None e choice
 
 -- The disk failed in an event that is answered by a failure, and says whether it stopped.
 abbrev pub FailsAsAnswered : Bool → (before after : ℕ) → network.Reply → Type 0
-FailsAsAnswered stopped before after (network.DiskFailed how) = Rose before after × (how ≡ failure_of (how_by stopped))
+FailsAsAnswered stopped before after (network.DiskFailed how) =
+    Rose before after × (how ≡ failure_of (how_by stopped))
 FailsAsAnswered stopped before after _ = after ≡ before
 
--- An event of one manager, which calls its disk: a choice that is allowed comes to the reply and to the network, no packet is sent, each store has had
--- as many records more as were written, and the disks are held.
-pub record IsTurnWhere (allowed : Choice → Bool) (which : Which) (x y : Side) (d e : View) (stopped : Bool) (answers : Choice → Answer) (given : Reply) : Type 0 where
+-- An event of one manager, which calls its disk: a choice that is allowed comes to the reply and
+-- to the network, no packet is sent, each store has had as many records more as were written,
+-- and the disks are held.
+pub record IsTurnWhere (allowed : Choice → Bool) (which : Which) (x y : Side) (d e : View)
+    (stopped : Bool) (answers : Choice → Answer) (given : Reply) : Type 0 where
   pub choice : Choice
   pub may : IsTrue (allowed choice)
   pub reply : told (answers choice).reply ≡ Ok given
@@ -41,7 +44,8 @@ pub record IsTurnWhere (allowed : Choice → Bool) (which : Which) (x y : Side) 
 
 -- its disk may fail under a record
 abbrev pub IsTurn : Which → Side → Side → View → View → Bool → (Choice → Answer) → Reply → Type 0
-IsTurn which x y d e stopped answers given = IsTurnWhere (may_fail (length (answers Well).after.written)) which x y d e stopped answers given
+IsTurn which x y d e stopped answers given =
+    IsTurnWhere (may_fail (length (answers Well).after.written)) which x y d e stopped answers given
 
 -- An event that calls no disk, and sends no packet.
 pub record IsQuiet (which : Which) (x y : Side) (a : Answer) (given : Reply) : Type 0 where

@@ -1,4 +1,5 @@
-//! What a call of one manager leaves between the two: the lines of its record join the ledger, and their connection ends where a disk failed.
+//! What a call of one manager leaves between the two: the lines of its record join the ledger, and
+//! their connection ends where a disk failed.
 ghost use Rattle.std.specs.Prelude.{◌≡◌, IfOk, OnOk};
 ghost use Rattle.mqb_seats.specs.Called.{failure_of};
 ghost use Rattle.mqb_seats.specs.Holding.{StaysStored};

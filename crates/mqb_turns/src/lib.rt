@@ -1,6 +1,8 @@
-//! What the events of a script are to two managers with their disks and the traffic between them: each is a turn of their network.
+//! What the events of a script are to two managers with their disks and the traffic between them:
+//! each is a turn of their network.
 //!
-//! Each function takes the manager that acts, the other one, and their traffic; `specs/Sides.antt` has the network that these make.
+//! Each function takes the manager that acts, the other one, and their traffic; `specs/Sides.antt`
+//! has the network that these make.
 #![tactic(auto)]
 
 mod asking;

@@ -56,9 +56,11 @@ pub fn pass<P: Power>(
     requires receiver { managers.other sent.now.sender ≡ which }
     requires held { IsHeldOn (P.view disk.old) own.old }
     requires lent { IsLent packet.now }
-    ensures passed { IfOk result (λ given. (p : Packet) → packet_in (seen_packet packet.now) ≡ Some p
+    ensures passed { IfOk result
+        (λ given. (p : Packet) → packet_in (seen_packet packet.now) ≡ Some p
         → IsPassed which (side own.old other.old traffic.old) (side own.new other.new traffic.new)
-        (P.view disk.old) (P.view disk.new) (P.is_stopped disk.new) (note_of sent.now) p now given) }
+        (P.view disk.old) (P.view disk.new) (P.is_stopped disk.new)
+        (note_of sent.now) p now given) }
     ensures switch { (P.view disk.new).switch ≡ (P.view disk.old).switch }
     ensures lasts { Lasts (P.view disk.old) (P.view disk.new) own.old own.new }
     ensures beside { StaysStored other.old other.new }

@@ -38,7 +38,8 @@ pub fn numbers(alloc: Global, before: u32, count: u32) -> Result<Listed<u32>, Me
 /// The packets of a manager go.
 ///
 /// # Errors
-/// `NetFull` where the next one would pass the medium's limit, `Memory`: those before it were added, and the managers are used no more.
+/// `NetFull` where the next one would pass the medium's limit, `Memory`: those before it were
+/// added, and the managers are used no more.
 pub fn send_out<P: Power, M: Medium>(
     own: &mut Seat,
     other: &mut Seat,

@@ -29,7 +29,8 @@ fn was_kept(opened: Opened) -> bool
 
 /// How a start is told.
 fn told(own: &Seat, was_down: bool, opened: Opened) -> Result<Reply, Memory>
-    ensures { IfOk result (λ given. given ≡ opened_reply was_down own.now.manager.store.lines opened) }
+    ensures { IfOk result
+        (λ given. given ≡ opened_reply was_down own.now.manager.store.lines opened) }
 {
     match opened {
         Opened::Same => Ok(if was_down {

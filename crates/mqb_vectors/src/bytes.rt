@@ -71,7 +71,8 @@ pub(crate) fn put_again(bytes: &[u8], given: &[u8], out: &mut Vec<u8>) -> Result
     put_digits(bytes.get(..MAX_PUT).unwrap_or(bytes), out)
 }
 
-/// Adds the bytes that digits spell, as often as stands behind them and a `*`; nothing where they are no digits.
+/// Adds the bytes that digits spell, as often as stands behind them and a `*`; nothing
+/// where they are no digits.
 fn put_word(alloc: Global, word: &str, out: &mut Vec<u8>) -> Result<(), Memory> {
     let (digits, count) = word.split_once('*').unwrap_or((word, "1"));
     let Ok(once) = hex::decode(alloc, digits) else {

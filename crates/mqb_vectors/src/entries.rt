@@ -3,7 +3,8 @@ use mqb_base::Memory;
 use mqb_entries::{Entry, entry_view, put_entry};
 use std::alloc::Global;
 
-/// Adds the list of an entry, where it has one: how many members it has, and each; of numbers the first, how many others there are, and each.
+/// Adds the list of an entry, where it has one: how many members it has, and each; of numbers the
+/// first, how many others there are, and each.
 fn put_list(alloc: Global, entry: &Entry<'_>, out: &mut Vec<u8>) -> Result<(), Memory> {
     match entry {
         Entry::Commit { ops, .. } => {

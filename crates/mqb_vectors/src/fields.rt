@@ -4,7 +4,8 @@ use mqb_fields::{Cursor, put_bytes, put_guid, put_u16, put_u32};
 use mqb_names::write_guid;
 use std::alloc::Global;
 
-/// Adds what a letter reads: a number of 1, 2 or 4 bytes, two bytes, or nothing of the byte that it skips. At `f` a copy of the cursor reads.
+/// Adds what a letter reads: a number of 1, 2 or 4 bytes, two bytes, or nothing of the byte that it
+/// skips. At `f` a copy of the cursor reads.
 fn field(
     alloc: Global,
     letter: u8,

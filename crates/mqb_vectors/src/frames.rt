@@ -58,7 +58,8 @@ fn feed_each(framer: &mut Framer, bytes: &[u8]) -> usize
     taken
 }
 
-/// `each LIMIT BYTES`: how many bytes a framer takes one by one, what is next, and how many it holds once that is dropped.
+/// `each LIMIT BYTES`: how many bytes a framer takes one by one, what is next, and how many it
+/// holds once that is dropped.
 pub(crate) fn show_each(alloc: Global, text: &str, out: &mut Vec<u8>) -> Result<(), Memory> {
     let (limit, digits) = text.split_once(' ').unwrap_or((text, ""));
     let bytes = bytes_of(alloc, digits)?;

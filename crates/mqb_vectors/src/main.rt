@@ -1,4 +1,5 @@
-//! Reads a table of vectors from its input and prints what each line says, a line for a line. It expects nothing: the file `stdout` does.
+//! Reads a table of vectors from its input and prints what each line says, a line for a line. It
+//! expects nothing: the file `stdout` does.
 #![tactic(auto)]
 
 mod bytes;
@@ -47,7 +48,8 @@ fn front(alloc: Global, kind: &str, bytes: &[u8], len: usize) -> Result<Vec<u8>,
     Ok(out)
 }
 
-/// Adds what the front of each length is read as, where that is not what the front before it is read as.
+/// Adds what the front of each length is read as, where that is not what the front
+/// before it is read as.
 fn fronts(alloc: Global, kind: &str, bytes: &[u8], out: &mut Vec<u8>) -> Result<(), Memory> {
     let mut last = Vec::new(alloc);
     for len in 0..=bytes.len() {
@@ -74,7 +76,8 @@ fn answer_bytes(alloc: Global, line: &str, out: &mut Vec<u8>) -> Result<(), Memo
     read(alloc, kind, bytes.as_slice(), out)
 }
 
-/// Adds what a line says: its first word tells how the rest is read. A remark, which begins with `#`, stands for itself.
+/// Adds what a line says: its first word tells how the rest is read. A remark, which begins with
+/// `#`, stands for itself.
 fn answer(alloc: Global, line: &str, out: &mut Vec<u8>) -> Result<(), Memory> {
     let (kind, rest) = split(line);
     match kind {

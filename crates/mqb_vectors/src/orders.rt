@@ -39,8 +39,8 @@ fn in_row(last: &TxHead) -> InRow {
     }
 }
 
-/// `judge ORDINAL STAMP NUMBER PREVIOUS; ORDINAL STAMP LAST`: the verdict on a packet by the incoming row of a sequence and its last number, or
-/// with nothing behind the packet by no row.
+/// `judge ORDINAL STAMP NUMBER PREVIOUS; ORDINAL STAMP LAST`: the verdict on a packet by the
+/// incoming row of a sequence and its last number, or with nothing behind the packet by no row.
 pub(crate) fn show_verdict(alloc: Global, text: &str, out: &mut Vec<u8>) -> Result<(), Memory> {
     match text.split_once("; ") {
         Some((packet, row)) => {
@@ -66,7 +66,8 @@ fn put_acknowledgement(alloc: Global, ack: OrderAck, out: &mut Vec<u8>) -> Resul
     put_value(alloc, &message, out)
 }
 
-/// `acked BYTES`: what the body of an order acknowledgement says, and the order acknowledgement that says so.
+/// `acked BYTES`: what the body of an order acknowledgement says, and the order
+/// acknowledgement that says so.
 pub(crate) fn show_acked(alloc: Global, bytes: &[u8], out: &mut Vec<u8>) -> Result<(), Memory> {
     match OrderAck::read(bytes) {
         Some(ack) => {
@@ -102,7 +103,8 @@ fn put_admin(
     }
 }
 
-/// Adds the final acknowledgement that is due to the source of a message where it meets a class at a manager.
+/// Adds the final acknowledgement that is due to the source of a message where it meets
+/// a class at a manager.
 fn put_final(
     alloc: Global,
     message: &Message,
@@ -119,8 +121,8 @@ fn put_final(
     }
 }
 
-/// Adds the dead-letter queue into which a message goes that meets a class at a manager, whether it was sent to an order layer, the administration
-/// message and the final acknowledgement.
+/// Adds the dead-letter queue into which a message goes that meets a class at a manager, whether it
+/// was sent to an order layer, the administration message and the final acknowledgement.
 fn put_fate(
     alloc: Global,
     message: &Message,
@@ -136,7 +138,8 @@ fn put_fate(
     put_final(alloc, message, class, &own, &source, out)
 }
 
-/// `fate CLASS BYTES`: what follows where the manager to which a user packet goes meets a class with its message.
+/// `fate CLASS BYTES`: what follows where the manager to which a user packet goes meets a
+/// class with its message.
 pub(crate) fn show_fate(alloc: Global, bytes: &[u8], out: &mut Vec<u8>) -> Result<(), Memory> {
     match user_packet(alloc, bytes.get(2..).unwrap_or_default())? {
         Some(user) => put_fate(alloc, &user.message, class_of(bytes), user.to, out),

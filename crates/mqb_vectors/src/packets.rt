@@ -1,5 +1,6 @@
 ghost use Rattle.std.specs.Prelude.{IfOk, IfSome};
-ghost use Rattle.mqb_packet.specs.Plain.{IsWellFormedPacket, IsWellFormedUser, carriage_of, carried_user};
+ghost use Rattle.mqb_packet.specs.Plain.{IsWellFormedPacket, IsWellFormedUser};
+ghost use Rattle.mqb_packet.specs.Plain.{carriage_of, carried_user};
 
 use crate::bytes::{bytes_of, put, put_again, put_fault, put_read, put_value};
 use mqb_base::{Bytes, Failed, Memory, NameError};
@@ -85,7 +86,8 @@ fn put_all_sizes(alloc: Global, user: UserPacket, out: &mut Vec<u8>) -> Result<(
     put_count(alloc, &Packet::User(user), out)
 }
 
-/// `body BODY; BYTES`: the sizes of the message of a user packet, with another body, and of the packet.
+/// `body BODY; BYTES`: the sizes of the message of a user packet, with another
+/// body, and of the packet.
 pub(crate) fn show_body(alloc: Global, text: &str, out: &mut Vec<u8>) -> Result<(), Memory> {
     let (body, digits) = text.split_once("; ").unwrap_or((text, ""));
     let bytes = bytes_of(alloc, digits)?;
@@ -115,7 +117,8 @@ fn put_lent(alloc: Global, user: &UserPacket, bytes: &[u8], out: &mut Vec<u8>) -
     put_again(again.as_slice(), bytes, out)
 }
 
-/// `lent BYTES`: what is put for the message of a user packet that has ten seconds to reach its queue.
+/// `lent BYTES`: what is put for the message of a user packet that has ten
+/// seconds to reach its queue.
 pub(crate) fn show_lent(alloc: Global, bytes: &[u8], out: &mut Vec<u8>) -> Result<(), Memory> {
     match user_packet(alloc, bytes)? {
         Some(mut user) => {

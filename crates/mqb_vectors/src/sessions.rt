@@ -48,7 +48,8 @@ fn hear_parameters(session: &mut Session, window: &str) {
     });
 }
 
-/// Notes that a recoverable packet is stored, where one was got that an acknowledgement would not tell as stored.
+/// Notes that a recoverable packet is stored, where one was got that an acknowledgement
+/// would not tell as stored.
 fn store(session: &mut Session) {
     let mut copy = *session;
     let told = copy.stamp(Kind::Ack);
@@ -119,8 +120,9 @@ fn put_end(alloc: Global, end: &Session, out: &mut Vec<u8>) -> Result<(), Memory
     put_value(alloc, &flags, out)
 }
 
-/// `initiator STEP ..`, `acceptor STEP ..`: what this end answers at each step, then its phase, whether it knows its peer, how many packets and
-/// recoverable ones are acknowledged, and whether it may send, is spent, and owes an acknowledgement.
+/// `initiator STEP ..`, `acceptor STEP ..`: what this end answers at each step, then its phase,
+/// whether it knows its peer, how many packets and recoverable ones are acknowledged, and whether
+/// it may send, is spent, and owes an acknowledgement.
 pub(crate) fn show_session(
     alloc: Global,
     end: &mut Session,

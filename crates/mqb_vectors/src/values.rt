@@ -13,7 +13,8 @@ pub(crate) fn number(text: Option<&str>) -> u32 {
     text.unwrap_or_default().parse::<u32>().unwrap_or(0)
 }
 
-/// Adds a name, whether it means the order layer, and the printed form of the order layer at a host of that name, which is named as such.
+/// Adds a name, whether it means the order layer, and the printed form of the order layer at a host
+/// of that name, which is named as such.
 fn put_word(alloc: Global, name: &Name, out: &mut Vec<u8>) -> Result<(), Memory> {
     put_value(alloc, name, out)?;
     put_value(alloc, &is_order_name(name), out)?;
@@ -30,7 +31,8 @@ pub(crate) fn show_word(alloc: Global, bytes: &[u8], out: &mut Vec<u8>) -> Resul
     }
 }
 
-/// `alike NAME NAME`: whether two names are equal, and whether they are but for the case of their letters.
+/// `alike NAME NAME`: whether two names are equal, and whether they are but for the
+/// case of their letters.
 pub(crate) fn show_alike(alloc: Global, text: &str, out: &mut Vec<u8>) -> Result<(), Memory> {
     let (one, other) = text.split_once(' ').unwrap_or((text, text));
     let one = Name::new(alloc, one.as_bytes()).map_err(|_| Memory)?;
@@ -50,7 +52,8 @@ pub(crate) fn class_of(bytes: &[u8]) -> Class {
     }
 }
 
-/// `class BYTES`: whether a class is known, negative, of receiving, of a refused arrival, and of a final acknowledgement.
+/// `class BYTES`: whether a class is known, negative, of receiving, of a refused arrival, and of a
+/// final acknowledgement.
 pub(crate) fn show_class(alloc: Global, bytes: &[u8], out: &mut Vec<u8>) -> Result<(), Memory> {
     let class = class_of(bytes);
     let kinds = [
@@ -95,8 +98,9 @@ fn label(alloc: Global, count: u32) -> Result<Units, Memory> {
     Units::from_slice(alloc, units.get(..count as usize).unwrap_or(&units))
 }
 
-/// The parts of a draft that words tell: the names of the destination, of the admin and of the response queue, the priority, the bits of the
-/// acknowledgement and of the journal, and how many units the label has.
+/// The parts of a draft that words tell: the names of the destination, of the admin and of the
+/// response queue, the priority, the bits of the acknowledgement and of the journal, and how many
+/// units the label has.
 fn parts(alloc: Global, words: &mut SplitWhitespace<'_>) -> Result<Parts, Memory> {
     Ok(Parts {
         destination: queue_name(words.next()),

@@ -1,4 +1,5 @@
--- The calls of a store's manager, from the words behind the first one, of which the store is the first.
+-- The calls of a store's manager, from the words behind the first one, of which
+-- the store is the first.
 use Rattle.std.specs.Prelude.{ℕ, List, [], ◌∷◌, Result, Ok, Err}
 use Rattle.mqb_fields.specs.Reading.{◌>>=◌}
 use Rattle.mqb_forms.specs.declared.faults.LineKind.{LineKind}
@@ -7,7 +8,8 @@ use Rattle.mqb_forms.specs.Values.{roll_of, place_of}
 use Rattle.mqb_forms.specs.Plans.{plan_of, how_of}
 use Rattle.mqb_forms.specs.Sends.{send_of, ops_of}
 use Rattle.mqb_words.specs.declared.commands.Call.{Call}
-use Rattle.mqb_words.specs.declared.commands.Call.TheVariants.{AddPeer, CreateQueue, Send, Commit, Take, Purge, Tick, SetRoll}
+use Rattle.mqb_words.specs.declared.commands.Call.TheVariants.{AddPeer, CreateQueue, Send, Commit}
+use Rattle.mqb_words.specs.declared.commands.Call.TheVariants.{Take, Purge, Tick, SetRoll}
 use Rattle.mqb_words.specs.Values.{identity_of}
 
 unfoldable pub peer_from : List (List ℕ) → Result Call LineKind

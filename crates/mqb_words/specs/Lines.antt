@@ -1,5 +1,6 @@
 -- What a line asks of a manager that is open.
-use Rattle.std.specs.Prelude.{[], ◌==◌, ◌∷◌, Bool, List, None, Option, Some, false, if◌then◌else◌, option_and_then, true, ℕ}
+use Rattle.std.specs.Prelude.{[], ◌==◌, ◌∷◌, Bool, List, None, Option, Some, false, if◌then◌else◌}
+use Rattle.std.specs.Prelude.{option_and_then, true, ℕ}
 use Rattle.std.specs.List.{slice_split}
 use Rattle.mqb_words.specs.Words.{command_of}
 use Rattle.mqb_words.specs.declared.commands.Command.{Command}

@@ -1,5 +1,7 @@
 -- Which word of a command line is at fault.
-use Rattle.std.specs.Prelude.{◌≡◌, ◌<◌, ◌+◌, ◌==◌, ◌++◌, ℕ, Bool, true, false, List, [], ◌∷◌, codes, drop, is_some, length, take, IsNone, IsSome, Option, None, Some, Result, Ok, Err}
+use Rattle.std.specs.Prelude.{◌≡◌, ◌<◌, ◌+◌, ◌==◌, ◌++◌, ℕ, Bool, true, false, List, [], ◌∷◌, codes}
+use Rattle.std.specs.Prelude.{drop, is_some, length, take, IsNone, IsSome, Option, None, Some}
+use Rattle.std.specs.Prelude.{Result, Ok, Err}
 use Rattle.std.specs.List.{slice_split}
 use Rattle.mqb_forms.specs.declared.faults.LineKind.{LineKind}
 use Rattle.mqb_words.specs.declared.forms.Form.{Form}
@@ -18,7 +20,8 @@ sample_of form.Show = codes "show"
 sample_of form.Init = codes "init STORE alpha 0a0b0c0d-1112-1314-1516-1718191a1b1c 10.0.0.1"
 sample_of form.Peer = codes "peer STORE beta 2a2b2c2d-3132-3334-3536-3738393a3b3c 10.0.0.2"
 sample_of form.Create = codes "create STORE orders tx 100 none 0a0b0c0d-1112-1314-1516-1718191a1b1c"
-sample_of form.Send = codes "send STORE express 3 send,PUBLIC=0a0b0c0d-1112-1314-1516-1718191a1b1c,-,-,-,-,-,hello"
+sample_of form.Send =
+    codes "send STORE express 3 send,PUBLIC=0a0b0c0d-1112-1314-1516-1718191a1b1c,-,-,-,-,-,hello"
 sample_of form.Commit = codes "commit STORE take,orders"
 sample_of form.Take = codes "take STORE orders"
 sample_of form.Purge = codes "purge STORE orders"
@@ -45,7 +48,8 @@ abbrev pub sample_for : List (List ℕ) → List (List ℕ)
 sample_for [] = []
 sample_for (word ∷ words) = sample_by (form_of word)
 
--- So many first words are the beginning of a command: with the rest of the sample behind them they ask for something.
+-- So many first words are the beginning of a command: with the rest of the sample behind them
+-- they ask for something.
 abbrev pub begins : (words sample : List (List ℕ)) → ℕ → Bool
 begins words sample count = is_some (command_of (take count words ++ drop count sample))
 
@@ -63,8 +67,11 @@ abbrev pub FindsUnfit : (words sample : List (List ℕ)) → Option ℕ → Type
 FindsUnfit words sample (Some at) = IsFirstUnfit words sample at
 FindsUnfit words sample None = Fit words sample (length words)
 
--- Words that are a command have no misfit. Of others it is the first word that does not fit, or that more are wanted behind them.
+-- Words that are a command have no misfit. Of others it is the first word that does not fit, or
+-- that more are wanted behind them.
 abbrev pub TellsMisfit : List (List ℕ) → Option Misfit → Type 0
 TellsMisfit words None = IsSome (command_of words)
-TellsMisfit words (Some (Word at)) = IsNone (command_of words) × IsFirstUnfit words (sample_for words) at
-TellsMisfit words (Some TooFew) = IsNone (command_of words) × Fit words (sample_for words) (length words)
+TellsMisfit words (Some (Word at)) =
+    IsNone (command_of words) × IsFirstUnfit words (sample_for words) at
+TellsMisfit words (Some TooFew) =
+    IsNone (command_of words) × Fit words (sample_for words) (length words)

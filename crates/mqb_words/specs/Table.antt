@@ -7,8 +7,10 @@ use Rattle.mqb_words.specs.declared.forms.Form.{Form}
 use Rattle.mqb_words.specs.declared.forms.Form.TheVariants as form
 
 abbrev pub forms : List Form
-forms = form.Replay ∷ form.Make ∷ form.Trial ∷ form.Show ∷ form.Init ∷ form.Peer ∷ form.Create ∷ form.Send ∷ form.Commit ∷ form.Take ∷ form.Purge
-    ∷ form.Tick ∷ form.Roll ∷ form.Checkpoint ∷ form.List ∷ form.Peek ∷ form.Probe ∷ form.Shell ∷ form.Serve ∷ form.Attend ∷ form.Push ∷ form.Fetch ∷ form.Help
+forms = form.Replay ∷ form.Make ∷ form.Trial ∷ form.Show ∷ form.Init ∷ form.Peer ∷ form.Create
+    ∷ form.Send ∷ form.Commit ∷ form.Take ∷ form.Purge
+    ∷ form.Tick ∷ form.Roll ∷ form.Checkpoint ∷ form.List ∷ form.Peek ∷ form.Probe ∷ form.Shell
+    ∷ form.Serve ∷ form.Attend ∷ form.Push ∷ form.Fetch ∷ form.Help
     ∷ form.Version ∷ []
 
 abbrev pub word_of : Form → List ℕ

@@ -15,8 +15,10 @@ use Rattle.mqb_words.specs.declared.commands.Call.{Call}
 use Rattle.mqb_words.specs.declared.commands.Command.{Command}
 use Rattle.mqb_words.specs.declared.commands.Command.TheVariants as command
 use Rattle.mqb_words.specs.Table.{form_of}
-use Rattle.mqb_words.specs.Values.{orders_of, connections_of, count_in, seconds_of, identity_of, address_in, wait_in}
-use Rattle.mqb_words.specs.Calls.{peer_from, create_from, send_from, commit_from, take_from, purge_from, tick_from, roll_from}
+use Rattle.mqb_words.specs.Values.{orders_of, connections_of, count_in, seconds_of, identity_of}
+use Rattle.mqb_words.specs.Values.{address_in, wait_in}
+use Rattle.mqb_words.specs.Calls.{peer_from, create_from, send_from, commit_from, take_from}
+use Rattle.mqb_words.specs.Calls.{purge_from, tick_from, roll_from}
 
 -- The words behind the first one.
 

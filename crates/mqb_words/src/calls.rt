@@ -1,6 +1,7 @@
 ghost use Rattle.std.specs.Prelude.{◌≡◌, map};
 ghost use Rattle.mqb_forms.specs.Faults.{Reads};
-ghost use Rattle.mqb_words.specs.Calls.{peer_from, create_from, sent_with, send_from, commit_from, take_from, purge_from, tick_from, roll_from};
+ghost use Rattle.mqb_words.specs.Calls.{peer_from, create_from, sent_with, send_from, commit_from};
+ghost use Rattle.mqb_words.specs.Calls.{take_from, purge_from, tick_from, roll_from};
 
 use crate::commands::Call;
 use crate::values::identity_of;

@@ -6,7 +6,8 @@ ghost use Rattle.mqb_words.specs.Stores.{has_store, store_of};
 use mqb_base::{Draft, Identity, Name, Place, QueuePlan};
 use mqb_forms::Ops;
 
-/// What the words of a command line ask for. STORE is the second word, and no part of a command: `store_of` finds it.
+/// What the words of a command line ask for. STORE is the second word, and no part of a command:
+/// `store_of` finds it.
 #[derive(Debug, Drop)]
 pub enum Command {
     /// `replay`

@@ -1,6 +1,7 @@
-//! The words of a command line: what they ask for, or that they are outside their forms.
-//! Of the definitions, `Table` has the forms of words by their first one, and `Words` what the words of a command line ask for. `command_of` reads them, and `misfit_of` says which word is at fault, by `Misfits`.
-//! `Lines` has what a line asks of a manager that is open, and `command_in` reads it.
+//! The words of a command line: what they ask for, or that they are outside their forms. Of the
+//! definitions, `Table` has the forms of words by their first one, and `Words` what the words of a
+//! command line ask for. `command_of` reads them, and `misfit_of` says which word is at fault, by
+//! `Misfits`. `Lines` has what a line asks of a manager that is open, and `command_in` reads it.
 #![tactic(auto)]
 
 mod calls;

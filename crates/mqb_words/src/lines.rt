@@ -21,7 +21,8 @@ fn stored_words(alloc: Global, line: &[u8]) -> Result<Vec<&[u8]>, AllocError>
     Ok(words)
 }
 
-/// What a line asks of a manager that is open. Its words are cut at each space, and are those of a command line but for the store.
+/// What a line asks of a manager that is open. Its words are cut at each space, and are those of a
+/// command line but for the store.
 pub fn command_in(alloc: Global, line: &[u8]) -> Result<Command, WordsFault>
     ensures line { Answers (command_in line.now) result }
     ensures formed { IfOk result IsFormed }

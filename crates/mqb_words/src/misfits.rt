@@ -77,7 +77,8 @@ fn sample_for(alloc: Global, words: &[&[u8]]) -> Result<Vec<&'static [u8]>, Allo
     }
 }
 
-/// Why the words of a command line, without the program's name, are no command; none where they are one.
+/// Why the words of a command line, without the program's name, are no command;
+/// none where they are one.
 pub fn misfit_of(alloc: Global, words: &[String]) -> Result<Option<Misfit>, AllocError>
     ensures { IfOk result (TellsMisfit (map string_bytes words.now)) }
 {

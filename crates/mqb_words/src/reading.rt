@@ -1,7 +1,9 @@
 ghost use Rattle.std.specs.Prelude.{◌≡◌, ◌≤◌, length, map, IfOk, IsTrue};
 ghost use Rattle.std.specs.String.{string_bytes};
 ghost use Rattle.mqb_forms.specs.Faults.{Reads};
-ghost use Rattle.mqb_words.specs.Words.{alone, of_store, orders_from, init_from, peek_from, serve_from, attend_from, push_from, fetch_from, command_with, command_from, command_of, Answers};
+ghost use Rattle.mqb_words.specs.Words.{alone, of_store, orders_from, init_from, peek_from};
+ghost use Rattle.mqb_words.specs.Words.{serve_from, attend_from, push_from, fetch_from};
+ghost use Rattle.mqb_words.specs.Words.{command_with, command_from, command_of, Answers};
 ghost use Rattle.mqb_words.specs.Stores.{has_store};
 ghost use Rattle.mqb_words.specs.Formed.{IsFormed};
 
@@ -178,7 +180,8 @@ pub(crate) fn bytes_of(alloc: Global, words: &[String]) -> Result<Vec<&[u8]>, Al
     words.iter().map(|word| word.as_bytes()).collect(alloc)
 }
 
-/// What the words of a command line ask for, without the program's name. A command of a store has the store as its second word.
+/// What the words of a command line ask for, without the program's name. A command of a store has
+/// the store as its second word.
 pub fn command_of(alloc: Global, words: &[String]) -> Result<Command, WordsFault>
     ensures words { Answers (command_of (map string_bytes words.now)) result }
     ensures formed { IfOk result IsFormed }

@@ -1,6 +1,8 @@
 ghost use Rattle.std.specs.Prelude.{◌≡◌, ◌<◌, map, IfOk};
 ghost use Rattle.mqb_forms.specs.Faults.{Reads};
-ghost use Rattle.mqb_words.specs.Values.{orders_of, connections_of, messages_of, count_in, seconds_of, octet_of, address_from, address_of, address_in, either_of, wait_in, identity_of};
+ghost use Rattle.mqb_words.specs.Values.{orders_of, connections_of, messages_of, count_in};
+ghost use Rattle.mqb_words.specs.Values.{seconds_of, octet_of, address_from, address_of};
+ghost use Rattle.mqb_words.specs.Values.{address_in, either_of, wait_in, identity_of};
 
 use mqb_base::Identity;
 use mqb_forms::{LineFault, LineKind, guid_of, name_of, number_in, parts};

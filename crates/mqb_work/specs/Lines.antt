@@ -21,7 +21,8 @@ reply_text hosts (Some id) = id_text hosts id
 
 -- the message that was taken, and its reply
 unfoldable pub done_line : List Identity → MessageId → Option MessageId → List ℕ
-done_line hosts id reply = codes "done " ++ id_text hosts id ++ codes " " ++ reply_text hosts reply ++ codes "\n"
+done_line hosts id reply =
+    codes "done " ++ id_text hosts id ++ codes " " ++ reply_text hosts reply ++ codes "\n"
 
 unfoldable pub step_line : List Identity → Step → List ℕ
 step_line hosts step.Idle = codes "idle\n"

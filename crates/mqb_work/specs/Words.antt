@@ -1,6 +1,7 @@
 -- What the words of the command line ask for.
 use Rattle.std.specs.List.{list_all}
-use Rattle.std.specs.Prelude.{[], ◌&&◌, ◌∷◌, Bool, Err, List, Ok, Option, Result, codes, length, nat_le, ℕ}
+use Rattle.std.specs.Prelude.{[], ◌&&◌, ◌∷◌, Bool, Err, List, Ok, Option, Result, codes, length}
+use Rattle.std.specs.Prelude.{nat_le, ℕ}
 use Rattle.std.specs.Result.{result_ok}
 use Rattle.mqb_base.specs.Same.{same_bytes}
 use Rattle.mqb_fields.specs.Reading.{◌>>=◌}
@@ -39,7 +40,8 @@ job_by queue count prefix = do
 
 -- `work`, the store, the queue, how many steps at most, and what stands before each body
 unfoldable pub job_from : List (List ℕ) → Result Job LineKind
-job_from (word ∷ store ∷ queue ∷ count ∷ prefix ∷ []) = only_if (same_bytes word (codes "work")) (job_by queue count prefix)
+job_from (word ∷ store ∷ queue ∷ count ∷ prefix ∷ []) =
+    only_if (same_bytes word (codes "work")) (job_by queue count prefix)
 job_from _ = Err Value
 
 -- what words ask for, where they are within their forms

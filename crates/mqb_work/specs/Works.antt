@@ -1,6 +1,7 @@
 -- What the program does with a store.
 use Rattle.std.specs.List.{AllByRecursion}
-use Rattle.std.specs.Prelude.{[], ◌++◌, ◌<◌, ◌∷◌, ◌≡◌, ◌≢◌, ◌⊎◌, Err, List, None, Ok, Option, Result, Some, length, ℕ}
+use Rattle.std.specs.Prelude.{[], ◌++◌, ◌<◌, ◌∷◌, ◌≡◌, ◌≢◌, ◌⊎◌, Err, List, None, Ok, Option}
+use Rattle.std.specs.Prelude.{Result, Some, length, ℕ}
 use Rattle.mqb_answers.specs.Texts.{hosts_of}
 use Rattle.mqb_base.specs.declared.ids.Identity.{Identity}
 use Rattle.mqb_commands.specs.Opened.{IsNotOpened, OpensAs}
@@ -21,13 +22,19 @@ with_last turns None = turns
 with_last turns (Some t) = turns ++ t ∷ []
 
 -- Why no step is made behind so many of count: all were made, or the program ended with one more.
-abbrev pub EndsWork : List Identity → (count made : ℕ) → (before after : Option (List ℕ)) → Result (Unit {0}) WorkStatus → Option Turn → Type 0
-EndsWork hosts count made before after (Ok done) last = (last ≡ None) × (made ≡ count) × (after ≡ before)
+abbrev pub EndsWork : List Identity → (count made : ℕ) → (before after : Option (List ℕ))
+    → Result (Unit {0}) WorkStatus → Option Turn → Type 0
+EndsWork hosts count made before after (Ok done) last =
+    (last ≡ None) × (made ≡ count) × (after ≡ before)
 EndsWork hosts count made before after (Err why) None = ⊥
-EndsWork hosts count made before after (Err why) (Some t) = (made < count) × TellsTurn hosts t.answer before after (Err why)
+EndsWork hosts count made before after (Err why) (Some t) =
+    (made < count) × TellsTurn hosts t.answer before after (Err why)
 
--- The managers from m to n made count steps, one after another, unless the program ended before. Of each that did not end it the line was written before the next was made.
-pub record Works (job : Job) (hosts : List Identity) (count : ℕ) (steady : Option ℕ) (m n : ManagerState) (before after : Option (List ℕ)) (r : Result (Unit {0}) WorkStatus) : Type 0 where
+-- The managers from m to n made count steps, one after another, unless the program ended before. Of
+-- each that did not end it the line was written before the next was made.
+pub record Works (job : Job) (hosts : List Identity) (count : ℕ) (steady : Option ℕ)
+    (m n : ManagerState) (before after : Option (List ℕ))
+    (r : Result (Unit {0}) WorkStatus) : Type 0 where
   -- those whose lines were written
   pub told : List Turn
   -- the one that ended the program
@@ -44,8 +51,10 @@ abbrev pub status_of : Result (Unit {0}) WorkStatus → WorkStatus
 status_of (Ok done) = status.Done
 status_of (Err why) = why
 
--- The manager to which the store opens works the job, and the disk stands for what the last step left.
-pub record WorksStore (job : Job) (steady : Option ℕ) (d e : View) (before after : Option (List ℕ)) (r : WorkStatus) : Type 0 where
+-- The manager to which the store opens works the job, and the disk stands for
+-- what the last step left.
+pub record WorksStore (job : Job) (steady : Option ℕ) (d e : View) (before after : Option (List ℕ))
+    (r : WorkStatus) : Type 0 where
   pub first : ManagerState
   pub left : ManagerState
   pub opened : OpensAs d first
@@ -71,10 +80,14 @@ pub record IsUnopened (d e : View) (before after : Option (List ℕ)) (r : WorkS
   pub ends : r ≡ unopened why
   pub taken : after ≡ before
 
-abbrev pub WorksJob : Job → (steady : Option ℕ) → (d e : View) → (before after : Option (List ℕ)) → WorkStatus → Type 0
-WorksJob job steady d e before after r = WorksStore job steady d e before after r ⊎ IsUnworked d e before after r ⊎ IsUnopened d e before after r
+abbrev pub WorksJob : Job → (steady : Option ℕ) → (d e : View) → (before after : Option (List ℕ))
+    → WorkStatus → Type 0
+WorksJob job steady d e before after r = WorksStore job steady d e before after r
+    ⊎ IsUnworked d e before after r ⊎ IsUnopened d e before after r
 
 -- The program: words within their form are worked, and others are none.
-abbrev pub Runs : Option Job → (steady : Option ℕ) → (d e : View) → (before after : Option (List ℕ)) → WorkStatus → Type 0
+abbrev pub Runs : Option Job → (steady : Option ℕ) → (d e : View) → (before after : Option (List ℕ))
+    → WorkStatus → Type 0
 Runs None steady d e before after r = r ≡ status.Usage
-Runs (Some job) steady d e before after r = WorksJob job steady d e before after r × (r ≢ status.Usage)
+Runs (Some job) steady d e before after r =
+    WorksJob job steady d e before after r × (r ≢ status.Usage)

@@ -59,7 +59,8 @@ fn step_line(alloc: Global, hosts: &[Identity], step: Step) -> Result<Vec<u8>, M
     Ok(text)
 }
 
-/// The line of a refusal, as a script has it. There is none where the disk failed or memory ran out.
+/// The line of a refusal, as a script has it. There is none where the disk
+/// failed or memory ran out.
 fn blocked_line(alloc: Global, hosts: &[Identity], fault: CommitFault) -> Result<Vec<u8>, Memory>
     ensures { IfOk result (λ text. text.items ≡
         blocked_line hosts.now (commit_fault_reply fault)) }

@@ -1,4 +1,5 @@
-//! `mqb_work` takes the messages of a queue of a store one after another, and answers each in the transaction that takes it.
+//! `mqb_work` takes the messages of a queue of a store one after another, and answers each in the
+//! transaction that takes it.
 #![tactic(auto)]
 
 mod lines;
@@ -86,7 +87,8 @@ fn run_words(rt: &HostRuntime, alloc: Global, words: &[String]) -> WorkStatus {
     }
 }
 
-/// Holds an empty file for each standard stream that is closed. Else the store would get the number of that stream, and with it what is written there.
+/// Holds an empty file for each standard stream that is closed. Else the store would get the number
+/// of that stream, and with it what is written there.
 fn hold_streams(rt: &HostRuntime) -> [io::Result<File>; 3] {
     let empty = "/dev/null";
     [

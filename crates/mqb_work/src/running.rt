@@ -84,7 +84,8 @@ fn work_job<K: Sink, D: Disk, C: Clock>(
     }
 }
 
-/// Does what the words of a command line ask for, without the program's name. `disk` is the store that the second of them names.
+/// Does what the words of a command line ask for, without the program's name. `disk` is the store
+/// that the second of them names.
 pub fn run_worker<K: Sink, D: Disk, C: Clock>(
     alloc: Global,
     words: &[String],

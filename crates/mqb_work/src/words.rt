@@ -3,7 +3,8 @@ ghost use Rattle.std.specs.List.{list_all};
 ghost use Rattle.std.specs.Prelude.{◌≡◌, ◌≤◌, IfOk, length, map};
 ghost use Rattle.std.specs.String.{string_bytes};
 ghost use Rattle.mqb_forms.specs.Faults.{Reads};
-ghost use Rattle.mqb_work.specs.Words.{is_prefix, is_prefix_byte, job_by, job_from, prefix_of, steps_of};
+ghost use Rattle.mqb_work.specs.Words.{is_prefix, is_prefix_byte, job_by, job_from};
+ghost use Rattle.mqb_work.specs.Words.{prefix_of, steps_of};
 
 use mqb_base::Name;
 use mqb_forms::{LineFault, LineKind, is_word, name_of, number_in};

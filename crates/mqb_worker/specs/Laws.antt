@@ -1,7 +1,9 @@
--- Over every list of calls in which only steps take from a queue, each message that is taken from it is answered in the record that takes it.
+-- Over every list of calls in which only steps take from a queue, each message that is taken from
+-- it is answered in the record that takes it.
 use Rattle.std.specs.List.{AllByRecursion, list_any}
 use Rattle.std.specs.Option.{option_map_or}
-use Rattle.std.specs.Prelude.{[], ◌++◌, ◌==◌, ◌∷◌, ◌≡◌, Bool, IfSome, List, None, Option, Some, false, fold, if◌then◌else◌, true, ℕ}
+use Rattle.std.specs.Prelude.{[], ◌++◌, ◌==◌, ◌∷◌, ◌≡◌, Bool, IfSome, List, None, Option, Some}
+use Rattle.std.specs.Prelude.{false, fold, if◌then◌else◌, true, ℕ}
 use Rattle.mqb_base.specs.declared.message.Message.{Message}
 use Rattle.mqb_base.specs.declared.queues.EntryPlace.TheVariants as place
 use Rattle.mqb_plain.specs.Plain.{PlainLists}
@@ -20,9 +22,12 @@ use Rattle.mqb_worker.specs.Work.{reply_to, waiting_in}
 
 -- the op by which a reply is sent, where a message asks for one
 abbrev pub reply_ops : State → (List ℕ → List ℕ) → (now : ℕ) → Message → List RecordOp
-reply_ops s h now m = option_map_or (λ to. Send (packet_to s (resolved s to) (message_for s now (reply_to h m to))) ∷ []) m.response []
+reply_ops s h now m = option_map_or
+    (λ to. Send (packet_to s (resolved s to) (message_for s now (reply_to h m to))) ∷ []) m.response
+    []
 
--- In the state that it met a record takes the first message of the queue that is not due, sends the reply to it, where it asks for one, and does nothing else.
+-- In the state that it met a record takes the first message of the queue that is not due, sends the
+-- reply to it, where it asks for one, and does nothing else.
 pub record IsWork (name : List ℕ) (h : List ℕ → List ℕ) (s : State) (r : Record) : Type 0 where
   pub now : ℕ
   pub number : ℕ
@@ -41,7 +46,8 @@ is_take_of _ _ = false
 -- in the state that it meets a record takes from the queue
 abbrev pub takes_from : State → (name : List ℕ) → Record → Bool
 takes_from s name (Commit now ops) = list_any (is_take_of (queue_named s name)) ops
-takes_from s name (Taken now (place.Queue queue) id) = is_take_of (queue_named s name) (Take queue id)
+takes_from s name (Taken now (place.Queue queue) id) =
+    is_take_of (queue_named s name) (Take queue id)
 takes_from s name _ = false
 
 -- Calls, one after another.
@@ -56,7 +62,8 @@ pub record Course : Type 0 where
   pub manager : Manager
   pub written : List Written
 
--- how a call ends: as its definition says, or memory runs out and nothing changes, or the disk fails under its record
+-- how a call ends: as its definition says, or memory runs out and nothing changes, or the disk
+-- fails under its record
 pub data End : Type 0 where
   Well : End
   Wanting : End
@@ -68,7 +75,8 @@ pub data Deed : Type 0 where
   Steps : (now : ℕ) → End → Deed
   -- another call is made, which comes to this
   Calls : Outcome (Unit {0}) → End → Deed
-  -- Its connection begins, ends or sends anew, of one that is down too: marks of plain messages change, and what is known of a connection.
+  -- Its connection begins, ends or sends anew, of one that is down too: marks of plain messages
+  -- change, and what is known of a connection.
   Connects : List PlainLists → Rest → Deed
   -- it is started again over what its disk left: with the record in doubt, or without
   Restarts : (kept : Bool) → Deed
@@ -122,7 +130,8 @@ TakesNothing name m _ = Unit {0}
 -- so it is of each
 abbrev pub OnlyStepsTake : (name : List ℕ) → (List ℕ → List ℕ) → Course → List Deed → Type 0
 OnlyStepsTake name h c [] = Unit {0}
-OnlyStepsTake name h c (deed ∷ deeds) = TakesNothing name c.manager deed × OnlyStepsTake name h (after_deed name h c deed) deeds
+OnlyStepsTake name h c (deed ∷ deeds) =
+    TakesNothing name c.manager deed × OnlyStepsTake name h (after_deed name h c deed) deeds
 
 -- The law.
 
@@ -132,7 +141,10 @@ AnswersTaken name h w = takes_from w.before name w.entry ≡ true → IsWork nam
 
 pub record EachTakenIsAnswered : Type 0 where
   -- each record of a step is a worker's
-  pub steps : (name : List ℕ) (h : List ℕ → List ℕ) (m : Manager) (now : ℕ) → IfSome (stepped m name h now).entry (IsWork name h m.state)
+  pub steps : (name : List ℕ) (h : List ℕ → List ℕ) (m : Manager) (now : ℕ)
+      → IfSome (stepped m name h now).entry (IsWork name h m.state)
   -- and so is each record that takes from the queue, from a manager that has nothing in doubt on
-  pub taken : (name : List ℕ) (h : List ℕ → List ℕ) (m : Manager) (deeds : List Deed) → doubt_of m.condition ≡ None
-      → OnlyStepsTake name h (beginning m) deeds → AllByRecursion (AnswersTaken name h) (after_deeds name h (beginning m) deeds).written
+  pub taken : (name : List ℕ) (h : List ℕ → List ℕ) (m : Manager) (deeds : List Deed)
+      → doubt_of m.condition ≡ None
+      → OnlyStepsTake name h (beginning m) deeds
+      → AllByRecursion (AnswersTaken name h) (after_deeds name h (beginning m) deeds).written

@@ -10,7 +10,8 @@ use Rattle.mqb_worker.specs.Work.{queue_by, waiting_in}
 -- its take: no queue has the name, or one that is not transactional; it never finds the queue empty
 abbrev pub RefusesTake : State → (name : List ℕ) → OpFault → Type 0
 RefusesTake s name op_fault.NoQueue = queue_by s name ≡ None
-RefusesTake s name op_fault.NotTransactional = IsSomeAnd (queue_by s name) (λ q. q.plan.transactional ≡ false)
+RefusesTake s name op_fault.NotTransactional =
+    IsSomeAnd (queue_by s name) (λ q. q.plan.transactional ≡ false)
 RefusesTake s name _ = ⊥
 
 -- its reply: there is one, and it goes nowhere

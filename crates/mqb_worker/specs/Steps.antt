@@ -1,6 +1,7 @@
 -- What a step of a worker comes to.
 use Rattle.std.specs.Option.{option_map_or}
-use Rattle.std.specs.Prelude.{◌≡◌, Err, IsSomeAnd, List, None, Ok, Option, Result, Some, if◌then◌else◌, option_and_then, option_map, slice_get, true, ℕ}
+use Rattle.std.specs.Prelude.{◌≡◌, Err, IsSomeAnd, List, None, Ok, Option, Result, Some}
+use Rattle.std.specs.Prelude.{if◌then◌else◌, option_and_then, option_map, slice_get, true, ℕ}
 use Rattle.mqb_base.specs.declared.ids.MessageId.{MessageId}
 use Rattle.mqb_model.specs.calls.Commit.{commit}
 use Rattle.mqb_model.specs.declared.answers.Done.{Done}
@@ -52,12 +53,14 @@ told_step o = told_as o (step_answer o.answer)
 -- The step.
 
 -- The work is done in one transaction, unless the manager is down, or nothing waits.
-abbrev pub stepped : Manager → (name : List ℕ) → (List ℕ → List ℕ) → (now : ℕ) → Outcome (Result Step CommitFault)
+abbrev pub stepped : Manager → (name : List ℕ) → (List ℕ → List ℕ) → (now : ℕ)
+    → Outcome (Result Step CommitFault)
 stepped m name h now = if is_down m then answering m (Err fault.Down)
     else if is_idle m.state name now then answering m (Ok step.Idle)
     else told_step (commit m (work m.state name h now) now)
 
--- What a step answers that is not refused: nothing waits; or the message that waited, and the manager's next number as its reply's, where it asks for one.
+-- What a step answers that is not refused: nothing waits; or the message that waited, and the
+-- manager's next number as its reply's, where it asks for one.
 abbrev pub TellsWork : State → (name : List ℕ) → (now : ℕ) → Step → Type 0
 TellsWork s name now step.Idle = is_idle s name now ≡ true
 TellsWork s name now (step.Done id reply) = IsSomeAnd (waiting_in s name now) (λ m.

@@ -1,6 +1,7 @@
 -- What a worker makes of the message that waits in a queue.
 use Rattle.std.specs.Option.{option_map_or}
-use Rattle.std.specs.Prelude.{[], ◌&&◌, ◌++◌, ◌∷◌, Bool, List, None, Option, false, is_none, option_and_then, option_map, ℕ}
+use Rattle.std.specs.Prelude.{[], ◌&&◌, ◌++◌, ◌∷◌, Bool, List, None, Option, false, is_none}
+use Rattle.std.specs.Prelude.{option_and_then, option_map, ℕ}
 use Rattle.mqb_base.specs.declared.draft.Op.{Op}
 use Rattle.mqb_base.specs.declared.draft.Op.TheVariants as op
 use Rattle.mqb_base.specs.declared.draft.Parts.{Parts}
@@ -33,7 +34,8 @@ waiting_in s name now = option_and_then (waiting_at s now) (queue_named s name)
 
 -- the queue is there and transactional, and nothing waits in it
 abbrev pub is_idle : State → (name : List ℕ) → (now : ℕ) → Bool
-is_idle s name now = is_none (waiting_in s name now) && option_map_or (λ q. q.plan.transactional) (queue_by s name) false
+is_idle s name now = is_none (waiting_in s name now)
+    && option_map_or (λ q. q.plan.transactional) (queue_by s name) false
 
 -- The reply.
 

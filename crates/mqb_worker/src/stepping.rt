@@ -15,11 +15,13 @@ use mqb_outside::Disk;
 use mqb_replies::Manager;
 use std::alloc::Global;
 
-/// Takes the first message of a queue that is not due, at a moment in seconds, and sends what the handler makes of its body to the queue that the message names for
-/// that, in one transaction. Where nothing waits it does nothing.
+/// Takes the first message of a queue that is not due, at a moment in seconds, and sends what the
+/// handler makes of its body to the queue that the message names for that, in one transaction.
+/// Where nothing waits it does nothing.
 ///
 /// # Errors
-/// Those of `Manager::commit`: of the take at index 0 and of the reply at index 1. Message and queue are as before.
+/// Those of `Manager::commit`: of the take at index 0 and of the reply at index 1. Message and
+/// queue are as before.
 pub fn step<D: Disk, H: Handler>(
     alloc: Global,
     disk: &mut D,

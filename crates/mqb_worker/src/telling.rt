@@ -1,11 +1,13 @@
 //! What a step did, as it is told.
 ghost use Rattle.std.specs.Prelude.{◌≡◌};
-ghost use Rattle.mqb_worker.specs.Steps.{sent_by, sent_second, step_answer, step_of, taken_by, taken_first};
+ghost use Rattle.mqb_worker.specs.Steps.{sent_by, sent_second, step_answer, step_of};
+ghost use Rattle.mqb_worker.specs.Steps.{taken_by, taken_first};
 
 use mqb_base::MessageId;
 use mqb_model::{CommitFault, Committed, Done};
 
-/// What a step did: nothing waited; or a message was taken, and its reply sent, where it asks for one.
+/// What a step did: nothing waited; or a message was taken, and its reply sent,
+/// where it asks for one.
 #[derive(Clone, Copy, Debug, PartialEq, Eq)]
 pub enum Step {
     Idle,

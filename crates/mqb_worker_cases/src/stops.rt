@@ -6,7 +6,8 @@ use mqb_worker::{Manager, OpenFault, Prefix, step};
 use std::alloc::Global;
 use std::test::Fail;
 
-/// Alpha, which has the queues `orders` and `replies`, and in the first an order of its own, committed at 1000, whose body is `one` and which asks to be answered in the second.
+/// Alpha, which has the queues `orders` and `replies`, and in the first an order of its own,
+/// committed at 1000, whose body is `one` and which asks to be answered in the second.
 static STORE: [u8; 334] = *b"MQBJ\x01\0\0\0\
 \x0D\x0C\x0B\x0A\x12\x11\x14\x13\x15\x16\x17\x18\x19\x1A\x1B\x1C\
 \x01\x1B\0\0\0\x01\x05alpha\x0D\x0C\x0B\x0A\x12\x11\x14\x13\x15\x16\x17\x18\x19\x1A\x1B\x1C\x0A\0\0\x01\
@@ -26,7 +27,8 @@ static STORE: [u8; 334] = *b"MQBJ\x01\0\0\0\
 /// As many bytes as the store may have.
 const ROOM: usize = 16_384;
 
-/// How many calls the disk has where that store is written and a manager started: two; three up to the first gate, two for each record, and a sync.
+/// How many calls the disk has where that store is written and a manager started: two; three up to
+/// the first gate, two for each record, and a sync.
 const STARTED: u32 = 14;
 
 const NOW: u32 = 2000;
@@ -89,7 +91,8 @@ fn counts_on(alloc: Global, disk: &mut MemoryDisk) -> Result<Result<[u32; 2], Op
     Ok(counts(alloc, disk, &orders, &replies))
 }
 
-/// How many messages both queues have behind a step of which this call of the disk stops or fails, and a restart.
+/// How many messages both queues have behind a step of which this call of the disk stops or
+/// fails, and a restart.
 fn left(alloc: Global, mode: Mode, call: u32, pick: Pick) -> Result<[u32; 2], Fail> {
     let mut disk = MemoryDisk::new(alloc, ROOM)?;
     disk.arm(call.saturating_add(STARTED).max(1), mode);
@@ -117,7 +120,8 @@ const WAITS: [u32; 2] = [1, 0];
 
 const ANSWERED: [u32; 2] = [0, 1];
 
-/// A call of the step of which the disk stops or fails, and what stands in both queues by each pick.
+/// A call of the step of which the disk stops or fails, and what stands in both
+/// queues by each pick.
 static STOPS: [(Mode, u32, [[u32; 2]; 4]); 6] = [
     (Mode::Stop, 1, [WAITS, WAITS, WAITS, WAITS]),
     (Mode::Stop, 2, [WAITS, WAITS, WAITS, WAITS]),

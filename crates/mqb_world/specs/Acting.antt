@@ -18,7 +18,8 @@ use Rattle.mqb_traffic.specs.Networks.{index_of, notes_of}
 use Rattle.mqb_transcript.specs.declared.replies.Reply.{Reply}
 use Rattle.mqb_turns.specs.Counts.{counts_at}
 use Rattle.mqb_turns.specs.Sides.{Side, network_at}
-use Rattle.mqb_world.specs.Disks.{FarGoes, FaultsGo, RecordsGo, failures_alone, failures_told, rewrites, switching}
+use Rattle.mqb_world.specs.Disks.{FarGoes, FaultsGo, RecordsGo, failures_alone, failures_told}
+use Rattle.mqb_world.specs.Disks.{rewrites, switching}
 use Rattle.mqb_runs.specs.Requests.{actor, request_of}
 use Rattle.mqb_world.specs.Worlds.{WorldState, counts_of, network_of}
 
@@ -38,8 +39,10 @@ IsOf which (event.Restart manager pick) = manager ≡ index_of which
 IsOf which e = IsCallOf which e
 
 -- What it makes of the two managers, the medium and the disk.
-pub record IsActed (which : Which) (x y : Side) (d e : View) (stopped : Bool) (asked : Event) (strings strings_now : List (List ℕ)) (given : Reply) : Type 0 where
-  pub step : IsStep (network_at which x) (counts_at which x) None (event_of asked) (network_at which y) (counts_at which y) strings strings_now given
+pub record IsActed (which : Which) (x y : Side) (d e : View) (stopped : Bool) (asked : Event)
+    (strings strings_now : List (List ℕ)) (given : Reply) : Type 0 where
+  pub step : IsStep (network_at which x) (counts_at which x) None (event_of asked)
+      (network_at which y) (counts_at which y) strings strings_now given
   pub held : IsHeldOn e y.own
   pub beside : StaysStored x.other y.other
   pub faults : FaultsGo asked stopped d.faults e.faults (failures_alone which asked given)
@@ -47,24 +50,38 @@ pub record IsActed (which : Which) (x y : Side) (d e : View) (stopped : Bool) (a
   pub far : FarGoes (rewrites which asked) x.own given
 
 -- What an event makes of a world, its medium and both disks.
-pub record Happens (w w_now : WorldState) (q : Option Packet) (asked : Event) (strings strings_now : List (List ℕ)) (first first_now second second_now : View) (first_stopped second_stopped : Bool) (given : Reply) : Type 0 where
-  pub step : IsStep (network_of w) (counts_of w) q (event_of asked) (network_of w_now) (counts_of w_now) strings strings_now given
+pub record Happens (w w_now : WorldState) (q : Option Packet) (asked : Event)
+    (strings strings_now : List (List ℕ)) (first first_now second second_now : View)
+    (first_stopped second_stopped : Bool) (given : Reply) : Type 0 where
+  pub step : IsStep (network_of w) (counts_of w) q (event_of asked) (network_of w_now)
+      (counts_of w_now) strings strings_now given
   pub alpha : IsHeldOn first_now w_now.alpha
   pub beta : IsHeldOn second_now w_now.beta
-  pub alpha_faults : FaultsGo asked first_stopped first.faults first_now.faults (failures_told (notes_of w_now.traffic) Alpha asked given)
-  pub beta_faults : FaultsGo asked second_stopped second.faults second_now.faults (failures_told (notes_of w_now.traffic) Beta asked given)
-  pub alpha_records : RecordsGo (switching Alpha asked) given (records_of w.alpha) (records_of w_now.alpha)
-  pub beta_records : RecordsGo (switching Beta asked) given (records_of w.beta) (records_of w_now.beta)
+  pub alpha_faults : FaultsGo asked first_stopped first.faults first_now.faults
+      (failures_told (notes_of w_now.traffic) Alpha asked given)
+  pub beta_faults : FaultsGo asked second_stopped second.faults second_now.faults
+      (failures_told (notes_of w_now.traffic) Beta asked given)
+  pub alpha_records :
+      RecordsGo (switching Alpha asked) given (records_of w.alpha) (records_of w_now.alpha)
+  pub beta_records :
+      RecordsGo (switching Beta asked) given (records_of w.beta) (records_of w_now.beta)
   pub alpha_far : FarGoes (rewrites Alpha asked) w.alpha given
   pub beta_far : FarGoes (rewrites Beta asked) w.beta given
 
 -- It happens with whatever packets the strings of the medium spell.
-abbrev pub HappensAmong : (w w_now : WorldState) → Event → (strings strings_now : List (List ℕ)) → (first first_now second second_now : View) → (first_stopped second_stopped : Bool) → Reply → Type 0
-HappensAmong w w_now asked strings strings_now first first_now second second_now first_stopped second_stopped given = (packets : List Packet) → AreWritable packets
+abbrev pub HappensAmong : (w w_now : WorldState) → Event → (strings strings_now : List (List ℕ))
+    → (first first_now second second_now : View) → (first_stopped second_stopped : Bool) → Reply
+    → Type 0
+HappensAmong w w_now asked strings strings_now first first_now second second_now first_stopped
+    second_stopped given = (packets : List Packet) → AreWritable packets
     → strings ≡ map plain_spelling packets
-    → Happens w w_now (packet_of packets (event_of asked)) asked strings strings_now first first_now second second_now first_stopped second_stopped given
+    → Happens w w_now (packet_of packets (event_of asked)) asked strings strings_now first first_now
+    second second_now first_stopped second_stopped given
 
 -- or falls short with them
-abbrev pub ShortAmong : {T : Type 0} → WorldState → Event → (strings strings_now : List (List ℕ)) → Result T PostFault → Type 0
-ShortAmong w asked strings strings_now result = (packets : List Packet) → AreWritable packets → strings ≡ map plain_spelling packets
-    → FallsShort (network_of w) (packet_of packets (event_of asked)) (event_of asked) strings strings_now result
+abbrev pub ShortAmong : {T : Type 0} → WorldState → Event → (strings strings_now : List (List ℕ))
+    → Result T PostFault → Type 0
+ShortAmong w asked strings strings_now result =
+    (packets : List Packet) → AreWritable packets → strings ≡ map plain_spelling packets
+    → FallsShort (network_of w) (packet_of packets (event_of asked))
+    (event_of asked) strings strings_now result

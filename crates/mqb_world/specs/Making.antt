@@ -13,4 +13,5 @@ HasBytes d = Each d.reads (λ c. 0 < length c)
 
 -- Where one of two disks has bytes, both are only read.
 abbrev pub KeepBytes : (first first_now second second_now : View) → Type 0
-KeepBytes first first_now second second_now = HasBytes first ⊎ HasBytes second → OnlyReads first first_now × OnlyReads second second_now
+KeepBytes first first_now second second_now =
+    HasBytes first ⊎ HasBytes second → OnlyReads first first_now × OnlyReads second second_now

@@ -28,9 +28,14 @@ pub record AreUnlinked (w : WorldState) : Type 0 where
   pub beta : w.traffic.link ≡ None → (seated w.beta).rest.session ≡ None
 
 -- The packets of a manager went, and the other one's disk was not called.
-abbrev pub SentBy : Which → (w w_now : WorldState) → (first first_now second second_now : View) → (first_stopped second_stopped : Bool)
+abbrev pub SentBy : Which → (w w_now : WorldState) → (first first_now second second_now : View)
+    → (first_stopped second_stopped : Bool)
     → (strings strings_now : List (List ℕ)) → ℕ → Pumped → Type 0
-SentBy Alpha w w_now first first_now second second_now first_stopped second_stopped strings strings_now now pumped =
-    IsSent Alpha (side_of w Alpha) (side_of w_now Alpha) first first_now first_stopped strings strings_now now pumped × (second_now.faults ≡ second.faults)
-SentBy Beta w w_now first first_now second second_now first_stopped second_stopped strings strings_now now pumped =
-    IsSent Beta (side_of w Beta) (side_of w_now Beta) second second_now second_stopped strings strings_now now pumped × (first_now.faults ≡ first.faults)
+SentBy Alpha w w_now first first_now second second_now first_stopped second_stopped strings
+    strings_now now pumped =
+    IsSent Alpha (side_of w Alpha) (side_of w_now Alpha) first first_now first_stopped strings
+    strings_now now pumped × (second_now.faults ≡ second.faults)
+SentBy Beta w w_now first first_now second second_now first_stopped second_stopped strings
+    strings_now now pumped =
+    IsSent Beta (side_of w Beta) (side_of w_now Beta) second second_now second_stopped strings
+    strings_now now pumped × (first_now.faults ≡ first.faults)

@@ -1,5 +1,6 @@
 //! How two managers are connected: both are linked, and four packets set the session up.
-ghost use Rattle.std.specs.Prelude.{[], ◌∷◌, ◌+◌, ◌<◌, ◌^◌, ◌≡◌, ◌≤◌, Err, IfOk, None, OnOk, false, length, map};
+ghost use Rattle.std.specs.Prelude.{[], ◌∷◌, ◌+◌, ◌<◌, ◌^◌, ◌≡◌, ◌≤◌, Err, IfOk, None, OnOk, false};
+ghost use Rattle.std.specs.Prelude.{length, map};
 ghost use Rattle.mqb_deliveries.specs.Courses.{ComesTo};
 ghost use Rattle.mqb_deliveries.specs.Peers.{KnowEachOther};
 ghost use Rattle.mqb_deliveries.specs.Steps.{FallsShort, IsShort, IsStep};
@@ -84,14 +85,7 @@ fn link_both(
     ensures beta { StaysStored beta.old beta.new }
 {
     match which {
-        Which::Alpha => link_pair(
-            alpha,
-            beta,
-            traffic,
-            Which::Alpha,
-            own_window,
-            other_window,
-        ),
+        Which::Alpha => link_pair(alpha, beta, traffic, Which::Alpha, own_window, other_window),
         Which::Beta => link_pair(beta, alpha, traffic, Which::Beta, own_window, other_window),
     }
 }
@@ -115,7 +109,8 @@ fn flow_quietly<P: Power, M: Medium>(
     requires quiet { (sending.flow (index_of which) now Well
         (course_from (network_in alpha.old beta.old traffic.old))).after.written ≡ [] }
     requires stands { (sending.flow (index_of which) now Well
-        (course_from (network_in alpha.old beta.old traffic.old))).after.network.connections ≡ [] → ⊥ }
+        (course_from (network_in alpha.old beta.old traffic.old))).after.network.connections ≡ []
+        → ⊥ }
     ensures comes { OnOk result (ComesTo (sending.flow (index_of which) now Well
         (course_from (network_in alpha.old beta.old traffic.old))).after
         (counts_with alpha.old beta.old) (network_in alpha.new beta.new traffic.new)

@@ -2,7 +2,8 @@ use mqb_base::Memory;
 use mqb_posts::PostFault;
 use thiserror::Error;
 
-/// Why a world was not made, or why an event has no reply. A world is used no more then, and the medium has the packets that were sent before.
+/// Why a world was not made, or why an event has no reply. A world is used no more then, and the
+/// medium has the packets that were sent before.
 #[derive(Clone, Copy, Debug, PartialEq, Eq, Error)]
 pub enum WorldFault {
     #[error("a disk is not empty")]

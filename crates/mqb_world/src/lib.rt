@@ -1,6 +1,7 @@
 //! Two managers on disks, and a medium between them: what a script asks of them, event by event.
 //!
-//! `specs/Standing.antt` says what an event is: behind a world stands a run of the network of `mqb_network`.
+//! `specs/Standing.antt` says what an event is: behind a world stands a run of the
+//! network of `mqb_network`.
 #![tactic(auto)]
 
 mod acting;

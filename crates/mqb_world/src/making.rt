@@ -27,7 +27,8 @@ pub(crate) fn find_empty<P: Power>(disk: &mut P) -> Result<(), WorldFault>
     ensures rich { result ≢ Err WorldFault.Memory }
     ensures reads { OnlyReads (P.view disk.old) (P.view disk.new) }
     ensures switch { (P.view disk.new).switch ≡ (P.view disk.old).switch }
-    ensures cause { FaultsAsSaid making_failed (P.view disk.old).faults (P.view disk.new).faults result }
+    ensures cause { FaultsAsSaid making_failed (P.view disk.old).faults
+        (P.view disk.new).faults result }
 {
     let Ok(len) = disk.len() else {
         return Err(WorldFault::DiskFault);
@@ -47,7 +48,8 @@ fn format<P: Power>(alloc: Global, disk: &mut P, own: &Identity) -> Result<Manag
     ensures not_empty { result ≡ Err WorldFault.NotEmpty → HasBytes (P.view disk.old) }
     ensures never { result ≢ Err WorldFault.NetFull }
     ensures switch { (P.view disk.new).switch ≡ (P.view disk.old).switch }
-    ensures cause { FaultsAsSaid making_failed (P.view disk.old).faults (P.view disk.new).faults result }
+    ensures cause { FaultsAsSaid making_failed (P.view disk.old).faults
+        (P.view disk.new).faults result }
 {
     match Manager::format(alloc, disk, own) {
         Ok(manager) => Ok(manager),
@@ -75,7 +77,8 @@ fn meet<P: Power>(
     ensures not_empty { result ≢ Err WorldFault.NotEmpty }
     ensures never { result ≢ Err WorldFault.NetFull }
     ensures switch { (P.view disk.new).switch ≡ (P.view disk.old).switch }
-    ensures cause { FaultsAsSaid making_failed (P.view disk.old).faults (P.view disk.new).faults result }
+    ensures cause { FaultsAsSaid making_failed (P.view disk.old).faults
+        (P.view disk.new).faults result }
 {
     match manager.add_peer(disk, peer) {
         Ok(_) => Ok(()),
@@ -102,7 +105,8 @@ pub(crate) fn make<P: Power>(
     ensures not_empty { result ≡ Err WorldFault.NotEmpty → HasBytes (P.view disk.old) }
     ensures never { result ≢ Err WorldFault.NetFull }
     ensures switch { (P.view disk.new).switch ≡ (P.view disk.old).switch }
-    ensures cause { FaultsAsSaid making_failed (P.view disk.old).faults (P.view disk.new).faults result }
+    ensures cause { FaultsAsSaid making_failed (P.view disk.old).faults
+        (P.view disk.new).faults result }
 {
     let mut manager = format(alloc, disk, own)?;
     match meet(&mut manager, disk, own, peer) {

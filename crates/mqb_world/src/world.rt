@@ -1,4 +1,5 @@
-ghost use Rattle.std.specs.Prelude.{[], ◌≡◌, ◌≢◌, ◌⊎◌, Err, IfOk, List, None, OnOk, Some, false, option_copied, true};
+ghost use Rattle.std.specs.Prelude.{[], ◌≡◌, ◌≢◌, ◌⊎◌, Err, IfOk, List, None, OnOk, Some, false};
+ghost use Rattle.std.specs.Prelude.{option_copied, true};
 ghost use Rattle.mqb_model.specs.managers.Manager.{is_down};
 ghost use Rattle.mqb_moves.specs.Seats.{IsHeldOn, records_of, seated};
 ghost use Rattle.mqb_network.specs.Runs.{Move};
@@ -10,7 +11,8 @@ ghost use Rattle.mqb_script.specs.Formed.{IsFormed};
 ghost use Rattle.mqb_script.specs.declared.grammar.Grammar.TheVariants.{Pair};
 ghost use Rattle.mqb_turns.specs.mqb_seats.Lasting.{Lasts};
 ghost use Rattle.mqb_traffic.specs.Networks.{notes_of};
-ghost use Rattle.mqb_world.specs.Disks.{FarGoes, FaultsGo, RecordsGo, StaysAsLeft, SwitchGoes, failures_told, rewrites, switching};
+ghost use Rattle.mqb_world.specs.Disks.{FarGoes, FaultsGo, RecordsGo, StaysAsLeft, SwitchGoes};
+ghost use Rattle.mqb_world.specs.Disks.{failures_told, rewrites, switching};
 ghost use Rattle.mqb_world.specs.Making.{HasBytes, IsEmpty, KeepBytes};
 ghost use Rattle.mqb_world.specs.Standing.{Applied, Stands};
 ghost use Rattle.mqb_world.specs.Worlds.{seat_at};
@@ -31,7 +33,8 @@ use mqb_turns::Seat;
 use std::alloc::Global;
 use std::marker::Model;
 
-/// Two managers, alpha and beta, each the other's peer and on a disk of its own, and the traffic between them. What the packets say is on a medium.
+/// Two managers, alpha and beta, each the other's peer and on a disk of its own, and the traffic
+/// between them. What the packets say is on a medium.
 #[derive(Debug)]
 pub struct World {
     pub(crate) alloc: Global,
@@ -69,7 +72,8 @@ impl World {
             ⊎ Rose (P.view second.old).faults (P.view second.new).faults }
         ensures never { result ≢ Err WorldFault.NetFull }
         ensures alpha_faults { OnOk result ((P.view first.new).faults ≡ (P.view first.old).faults) }
-        ensures beta_faults { OnOk result ((P.view second.new).faults ≡ (P.view second.old).faults) }
+        ensures beta_faults { OnOk result
+            ((P.view second.new).faults ≡ (P.view second.old).faults) }
         ensures alpha_switch { (P.view first.new).switch ≡ (P.view first.old).switch }
         ensures beta_switch { (P.view second.new).switch ≡ (P.view second.old).switch }
     {
@@ -95,7 +99,8 @@ impl World {
     /// One event of a script is asked of the managers, and told.
     ///
     /// # Errors
-    /// `NetFull`: a packet of the event would pass the limit of the medium, which has those before it. `Memory`. The world is used no more then.
+    /// `NetFull`: a packet of the event would pass the limit of the medium, which has those before
+    /// it. `Memory`. The world is used no more then.
     pub fn apply<P: Power, M: Medium>(
         &mut self,
         event: &Event,

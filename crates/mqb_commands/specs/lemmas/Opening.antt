@@ -24,7 +24,8 @@ opened_keeps d f m settles = record {
 }
 
 -- What a manager that is open does is done of the store that was opened.
-pub on_store : {does : (m n : ManagerState) → Type 0} {d f e : View} {m n : ManagerState} → OpensAs d m → OnlySettles d f → does m n → KeepsDisk f e m n → OnStore does d e
+pub on_store : {does : (m n : ManagerState) → Type 0} {d f e : View} {m n : ManagerState}
+    → OpensAs d m → OnlySettles d f → does m n → KeepsDisk f e m n → OnStore does d e
 on_store {does} {d} {f} {e} {m} {n} opened reads done disk = record {
   before = m;
   after = n;
@@ -40,10 +41,13 @@ unfolding fault_text
 memory_line = refl
 
 -- memory ran out
-pub memory_fails : (d e : View) (text : List ℕ) (end : Status) → OnlySettles d e → text ≡ [] → end ≡ status.Memory → FailsToOpen d e text end
-memory_fails d e text end reads none is = subst (FailsToOpen d e text) (sym is) (reads, none ∙ sym memory_line)
+pub memory_fails : (d e : View) (text : List ℕ) (end : Status) → OnlySettles d e → text ≡ []
+    → end ≡ status.Memory → FailsToOpen d e text end
+memory_fails d e text end reads none is =
+    subst (FailsToOpen d e text) (sym is) (reads, none ∙ sym memory_line)
 
-pub line_fails : (d e : View) (fault end : Status) (text : List ℕ) → IsNotOpened d e fault → OnlySettles d e → IsFaultLine fault text end → FailsToOpen d e text end
+pub line_fails : (d e : View) (fault end : Status) (text : List ℕ) → IsNotOpened d e fault
+    → OnlySettles d e → IsFaultLine fault text end → FailsToOpen d e text end
 line_fails d e fault end text not reads line = elim line [
   | inl said ↦ subst (FailsToOpen d e text) (sym said.0) (not, said.1)
   | inr none ↦ memory_fails d e text end reads none.1 none.0

@@ -1,5 +1,6 @@
 -- What a sink takes, one text after another.
-use Rattle.std.proofs.Common.{◌≡◌, ℕ, List, [], ◌++◌, take, drop, Option, Some, None, inl, inr, refl, sym, ap, subst, ◌∙◌, append_assoc, append-nil}
+use Rattle.std.proofs.Common.{◌≡◌, ℕ, List, [], ◌++◌, take, drop, Option, Some, None, inl, inr}
+use Rattle.std.proofs.Common.{refl, sym, ap, subst, ◌∙◌, append_assoc, append-nil}
 use Rattle.std.proofs.lemmas.List.{take-append-drop}
 use Rattle.std.specs.Option.{option_map}
 use Rattle.std.specs.Prelude.{Result, Ok, Err, OnOk, OnErr}
@@ -8,10 +9,13 @@ use Rattle.mqb_commands.specs.declared.status.Status.{Status}
 use Rattle.mqb_commands.specs.declared.status.Status.TheVariants as status
 use Rattle.mqb_commands.specs.Outputs.{IsPlain, Tells, TookFront, WriteFaultHasCause}
 
-pub took_then : (a b c : Option (List ℕ)) (x y : List ℕ) → Took a b x → Took b c y → Took a c (x ++ y)
-took_then None b c x y first second = second ∙ ap (λ (o : Option (List ℕ)). option_map (λ t. t ++ y) o) first
+pub took_then : (a b c : Option (List ℕ)) (x y : List ℕ) → Took a b x → Took b c y
+    → Took a c (x ++ y)
+took_then None b c x y first second =
+    second ∙ ap (λ (o : Option (List ℕ)). option_map (λ t. t ++ y) o) first
 took_then (Some t) b c x y first second =
-    second ∙ ap (λ (o : Option (List ℕ)). option_map (λ t. t ++ y) o) first ∙ ap (λ (z : List ℕ). Some z) (append_assoc t x y)
+    second ∙ ap (λ (o : Option (List ℕ)). option_map (λ t. t ++ y) o) first
+    ∙ ap (λ (z : List ℕ). Some z) (append_assoc t x y)
 
 pub took_none : (a : Option (List ℕ)) → Took a a []
 took_none None = refl
@@ -26,26 +30,34 @@ pub record TookSoFar (before after : Option (List ℕ)) (text left : List ℕ) :
 pub so_far_none : (a : Option (List ℕ)) (text : List ℕ) → TookSoFar a a text text
 so_far_none a text = record { written = []; whole = refl; took = took_none a }
 
-pub so_far_then : (a b c : Option (List ℕ)) (text left : List ℕ) (n : ℕ) → TookSoFar a b text left → Took b c (take n left) → TookSoFar a c text (drop n left)
+pub so_far_then : (a b c : Option (List ℕ)) (text left : List ℕ) (n : ℕ) → TookSoFar a b text left
+    → Took b c (take n left) → TookSoFar a c text (drop n left)
 so_far_then a b c text left n before more = record {
   written = before.written ++ take n left;
-  whole = append_assoc before.written (take n left) (drop n left) ∙ ap (λ (x : List ℕ). before.written ++ x) (take-append-drop n left) ∙ before.whole;
+  whole = append_assoc before.written (take n left) (drop n left)
+      ∙ ap (λ (x : List ℕ). before.written ++ x) (take-append-drop n left) ∙ before.whole;
   took = took_then a b c before.written (take n left) before.took more;
 }
 
-pub so_far_front : (a b : Option (List ℕ)) (text left : List ℕ) → TookSoFar a b text left → TookFront a b text
-so_far_front a b text left s = record { written = s.written; left = left; whole = s.whole; took = s.took }
+pub so_far_front : (a b : Option (List ℕ)) (text left : List ℕ) → TookSoFar a b text left
+    → TookFront a b text
+so_far_front a b text left s =
+    record { written = s.written; left = left; whole = s.whole; took = s.took }
 
-pub so_far_all : (a b : Option (List ℕ)) (text left : List ℕ) → left ≡ [] → TookSoFar a b text left → Took a b text
+pub so_far_all : (a b : Option (List ℕ)) (text left : List ℕ) → left ≡ [] → TookSoFar a b text left
+    → Took a b text
 so_far_all a b text left none s =
-    subst (λ (x : List ℕ). Took a b x) (sym (append-nil s.written) ∙ ap (λ (x : List ℕ). s.written ++ x) (sym none) ∙ s.whole) s.took
+    subst (λ (x : List ℕ). Took a b x)
+    (sym (append-nil s.written) ∙ ap (λ (x : List ℕ). s.written ++ x) (sym none) ∙ s.whole)
+    s.took
 
 -- nothing was taken yet
 pub front_none : (a : Option (List ℕ)) (text : List ℕ) → TookFront a a text
 front_none a text = record { written = []; left = text; whole = refl; took = took_none a }
 
 -- a text before another was taken, or a front of it
-pub front_then : (a b c : Option (List ℕ)) (x y : List ℕ) → Took a b x → TookFront b c y → TookFront a c (x ++ y)
+pub front_then : (a b c : Option (List ℕ)) (x y : List ℕ) → Took a b x → TookFront b c y
+    → TookFront a c (x ++ y)
 front_then a b c x y first second = record {
   written = x ++ second.written;
   left = second.left;
@@ -74,13 +86,15 @@ on_err_from (Ok x) f p = tt
 on_err_from (Err e) f p = f p
 
 -- what holds of the end that is told, and of a write fault, holds of the end of the program
-pub told_is : (P : Status → Type 0) (text : List ℕ) (end : Status) (before after : Option (List ℕ)) (r : Status) → Tells text end before after r
+pub told_is : (P : Status → Type 0) (text : List ℕ) (end : Status) (before after : Option (List ℕ))
+    (r : Status) → Tells text end before after r
     → P end → P status.WriteFault → P r
 told_is P text end before after r (inl told) well cut = subst P (sym told.0) well
 told_is P text end before after r (inr told) well cut = subst P (sym told.0) cut
 
 -- an end that is no write fault says nothing of the output
-pub plain_cause : (before after : ℕ) (end : Status) → IsPlain end → WriteFaultHasCause before after end
+pub plain_cause : (before after : ℕ) (end : Status) → IsPlain end
+    → WriteFaultHasCause before after end
 plain_cause before after status.WriteFault plain = absurd plain
 plain_cause before after status.Done plain = tt
 plain_cause before after status.Usage plain = tt

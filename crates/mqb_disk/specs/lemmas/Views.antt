@@ -14,5 +14,7 @@ memory_lawful d = record {
   only_now = λ c none. absurd none;
   counts_now = λ keeps t le c left. absurd (subst (λ (b : Bool). cond b ⊥ (Unit {0})) keeps tt);
   tells = λ keeps. absurd (subst (λ (b : Bool). cond b ⊥ (Unit {0})) keeps tt);
-  bound = λ c left. (let fits : length c ≤ d.current.room = left_within d.current.room d.changes.items d.safe.contents d.current.contents c d.fit d.safe_within d.within left in omega (arith, fits, d.bounded));
+  bound = λ c left. (let fits : length c ≤ d.current.room = left_within d.current.room
+      d.changes.items d.safe.contents d.current.contents c d.fit d.safe_within d.within left in
+      omega (arith, fits, d.bounded));
 }

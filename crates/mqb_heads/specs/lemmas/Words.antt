@@ -20,15 +20,41 @@ pub record BaseBits (priority : ℕ) (internal session : Bool) : Type 0 where
   pub fifth : bit 5 (base_word priority internal session) ≡ false
   pub fits : base_word priority internal session < 256 ^ 2
 
-pub base_bits : (priority : ℕ) (internal session : Bool) → priority ≤ 7 → BaseBits priority internal session
-base_bits p true true small = record { low = omega arith; third = is_set 3 _ (omega arith); fourth = is_set 4 _ (omega arith); fifth = is_clear 5 _ (omega arith); fits = omega arith }
-base_bits p true false small = record { low = omega arith; third = is_set 3 _ (omega arith); fourth = is_clear 4 _ (omega arith); fifth = is_clear 5 _ (omega arith); fits = omega arith }
-base_bits p false true small = record { low = omega arith; third = is_clear 3 _ (omega arith); fourth = is_set 4 _ (omega arith); fifth = is_clear 5 _ (omega arith); fits = omega arith }
-base_bits p false false small = record { low = omega arith; third = is_clear 3 _ (omega arith); fourth = is_clear 4 _ (omega arith); fifth = is_clear 5 _ (omega arith); fits = omega arith }
+pub base_bits : (priority : ℕ) (internal session : Bool) → priority ≤ 7
+    → BaseBits priority internal session
+base_bits p true true small = record {
+  low = omega arith;
+  third = is_set 3 _ (omega arith);
+  fourth = is_set 4 _ (omega arith);
+  fifth = is_clear 5 _ (omega arith);
+  fits = omega arith;
+}
+base_bits p true false small = record {
+  low = omega arith;
+  third = is_set 3 _ (omega arith);
+  fourth = is_clear 4 _ (omega arith);
+  fifth = is_clear 5 _ (omega arith);
+  fits = omega arith;
+}
+base_bits p false true small = record {
+  low = omega arith;
+  third = is_clear 3 _ (omega arith);
+  fourth = is_set 4 _ (omega arith);
+  fifth = is_clear 5 _ (omega arith);
+  fits = omega arith;
+}
+base_bits p false false small = record {
+  low = omega arith;
+  third = is_clear 3 _ (omega arith);
+  fourth = is_clear 4 _ (omega arith);
+  fifth = is_clear 5 _ (omega arith);
+  fits = omega arith;
+}
 
 -- the flags of a user header; low has the first two bits
 abbrev pub user_word : ℕ → ℕ → ℕ → ℕ → ℕ → ℕ
-user_word low destination admin response journal = low + placed 2 destination + placed 5 admin + placed 8 response + placed 11 journal
+user_word low destination admin response journal =
+    low + placed 2 destination + placed 5 admin + placed 8 response + placed 11 journal
 
 pub record UserBits (low destination admin response journal : ℕ) : Type 0 where
   pub first : user_word low destination admin response journal / 2 ^ 0 % 2 ≡ low % 2
@@ -40,7 +66,8 @@ pub record UserBits (low destination admin response journal : ℕ) : Type 0 wher
   pub secured : bit 13 (user_word low destination admin response journal) ≡ false
   pub fits : user_word low destination admin response journal < 256 ^ 4
 
-pub user_bits : (low destination admin response journal : ℕ) → low ≤ 3 → destination ≤ 3 → admin ≤ 3 → response ≤ 3 → journal ≤ 3 → UserBits low destination admin response journal
+pub user_bits : (low destination admin response journal : ℕ) → low ≤ 3 → destination ≤ 3 → admin ≤ 3
+    → response ≤ 3 → journal ≤ 3 → UserBits low destination admin response journal
 user_bits low d a p j l_few d_few a_few p_few j_few = record {
   first = omega arith;
   second = omega arith;

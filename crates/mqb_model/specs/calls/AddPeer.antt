@@ -18,4 +18,5 @@ add_peer_refusal m peer = if is_down m then Some fault.Down
 
 -- it answers the peer's index
 abbrev pub add_peer : Manager → Identity → Outcome (Result ℕ AddPeerFault)
-add_peer m peer = unless m (add_peer_refusal m peer) (recording m (entry.Peer peer) (Ok (length m.state.peers)))
+add_peer m peer =
+    unless m (add_peer_refusal m peer) (recording m (entry.Peer peer) (Ok (length m.state.peers)))

@@ -116,7 +116,8 @@ requested m (Take now place) = answered Took (take_message m place now)
 requested m (Purge now place) = answered Purged (purge m place now)
 requested m (Tick now) = answered Ticked (tick m now)
 
--- A checkpoint where nothing stands against it but that the manager is down: the disk is called, and no record is written.
+-- A checkpoint where nothing stands against it but that the manager is down: the disk is called,
+-- and no record is written.
 abbrev pub rewriting : Manager → Outcome Answer
 rewriting m = record (answering m Rewritten) { touches = not (is_down m) }
 

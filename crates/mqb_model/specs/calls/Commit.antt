@@ -1,7 +1,9 @@
 -- The call commit: its ops are tried one after another, and then one record is written.
 use Rattle.std.specs.List.{list_any}
 use Rattle.std.specs.Option.{option_map_or}
-use Rattle.std.specs.Prelude.{[], ◌++◌, ◌+◌, ◌==◌, ◌||◌, ◌∷◌, Bool, Err, List, None, Ok, Option, Result, Some, if◌then◌else◌, length, nat_le, nat_lt, not, slice_get, ℕ}
+use Rattle.std.specs.Prelude.{[], ◌++◌, ◌+◌, ◌==◌, ◌||◌, ◌∷◌, Bool, Err, List, None, Ok, Option}
+use Rattle.std.specs.Prelude.{Result, Some, if◌then◌else◌, length, nat_le, nat_lt, not}
+use Rattle.std.specs.Prelude.{slice_get, ℕ}
 use Rattle.mqb_base.specs.declared.draft.Op.{Op}
 use Rattle.mqb_base.specs.declared.draft.Op.TheVariants as asked
 use Rattle.mqb_base.specs.declared.message.Lane.TheVariants as lane
@@ -36,8 +38,9 @@ use Rattle.mqb_model.specs.state.Places.{put_at, without_at}
 use Rattle.mqb_model.specs.state.Resolving.{queue_named, resolved}
 use Rattle.mqb_model.specs.state.State.{State}
 
--- The ops that were tried so far. A take sees the takes before it and no send, and a send the sends before it and no take, so there are two
--- states; and what the record and the answer have of the ops.
+-- The ops that were tried so far. A take sees the takes before it and no send, and a send
+-- the sends before it and no take, so there are two states; and what the record and the
+-- answer have of the ops.
 pub record Trial : Type 0 where
   pub taking : State
   pub sending : State
@@ -65,11 +68,13 @@ first_free number now q = first_index (is_free (place.Queue number) now) q.lists
 -- that message is taken
 abbrev pub take_first : Trial → ℕ → ℕ → Queue → Result Trial OpFault
 take_first t now number q = option_map_or (λ k. option_map_or (λ m. Ok (with_take t number k m))
-    (slice_get q.lists.durable k) (Err op_fault.QueueEmpty)) (first_free number now q) (Err op_fault.QueueEmpty)
+    (slice_get q.lists.durable k) (Err op_fault.QueueEmpty)) (first_free number now q)
+    (Err op_fault.QueueEmpty)
 
 -- a transaction takes from a transactional queue
 abbrev pub take_from : Trial → ℕ → ℕ → Queue → Result Trial OpFault
-take_from t now number q = if q.plan.transactional then take_first t now number q else Err op_fault.NotTransactional
+take_from t now number q =
+    if q.plan.transactional then take_first t now number q else Err op_fault.NotTransactional
 
 -- the first message of the queue of a number is taken
 abbrev pub take_of : Trial → ℕ → ℕ → Result Trial OpFault
@@ -88,7 +93,8 @@ with_send t target m after done = record t {
 
 -- a message was put into a queue here
 abbrev pub with_put : Trial → ℕ → Message → Trial
-with_put t number m = with_send t (Here (Some number)) m (put_at t.sending (place.Queue number) m) (done.Put m.id)
+with_put t number m =
+    with_send t (Here (Some number)) m (put_at t.sending (place.Queue number) m) (done.Put m.id)
 
 -- a transactional queue takes it while its length, with the sends before it, is below its quota
 abbrev pub send_into : Trial → Message → ℕ → Queue → Result Trial OpFault
@@ -98,7 +104,8 @@ send_into t m number q = if not q.plan.transactional then Err op_fault.NotTransa
 
 -- a message joined a sequence
 abbrev pub with_joined : Trial → ℕ → Message → ℕ → Row → Trial
-with_joined t now m k row = with_send t (AtPeer k) m (join t.sending k now m) (done.Sent m.id row.sequence (row.committed + 1))
+with_joined t now m k row = with_send t (AtPeer k) m (join t.sending k now m)
+    (done.Sent m.id row.sequence (row.committed + 1))
 
 -- it joins the one in use, or a new one
 abbrev pub send_to_peer : Trial → ℕ → Message → ℕ → Result Trial OpFault
@@ -122,7 +129,8 @@ send_of t now m = send_to t now m (resolved t.sending m.destination)
 
 -- one op more is tried
 abbrev pub try_op : Trial → ℕ → Op → Result Trial OpFault
-try_op t now (asked.Take name) = option_map_or (take_of t now) (queue_named t.taking name) (Err op_fault.NoQueue)
+try_op t now (asked.Take name) =
+    option_map_or (take_of t now) (queue_named t.taking name) (Err op_fault.NoQueue)
 try_op t now (asked.Send p) = send_of t now (message_for t.sending now p)
 
 -- a fault stands at the index of its op
@@ -133,7 +141,8 @@ at_op index (Err why) = Err (fault.AtOp index why)
 -- ops from an index on, one after another, up to the first that fails
 abbrev pub try_ops : ℕ → ℕ → Trial → List Op → Result Trial CommitFault
 try_ops now index t [] = Ok t
-try_ops now index t (op ∷ ops) = at_op index (try_op t now op) >>= λ next. try_ops now (index + 1) next ops
+try_ops now index t (op ∷ ops) =
+    at_op index (try_op t now op) >>= λ next. try_ops now (index + 1) next ops
 
 -- why ops are not tried
 abbrev pub ops_refusal : Manager → List Op → Option CommitFault
@@ -144,7 +153,8 @@ ops_refusal m ops = if is_down m then Some fault.Down
 
 -- a packet or the whole record is longer than it can be
 abbrev pub has_too_large : List RecordOp → Bool
-has_too_large ops = list_any (is_too_large headers.TxAndSession) (sends_of ops) || nat_lt MAX_RECORD (commit_size ops)
+has_too_large ops = list_any (is_too_large headers.TxAndSession) (sends_of ops)
+    || nat_lt MAX_RECORD (commit_size ops)
 
 -- why ops that were tried make no transaction
 abbrev pub whole_refusal : Trial → Option CommitFault
@@ -153,10 +163,13 @@ whole_refusal t = if nat_lt (MAX_NUMBER + 1) t.sending.next_number then Some fau
     else None
 
 -- a transaction whose ops passed is written
-abbrev pub commit_tried : Manager → ℕ → Result Trial CommitFault → Outcome (Result (List Done) CommitFault)
+abbrev pub commit_tried : Manager → ℕ → Result Trial CommitFault
+    → Outcome (Result (List Done) CommitFault)
 commit_tried m now (Err why) = answering m (Err why)
-commit_tried m now (Ok t) = unless m (whole_refusal t) (recording m (entry.Commit now t.ops) (Ok t.done))
+commit_tried m now (Ok t) =
+    unless m (whole_refusal t) (recording m (entry.Commit now t.ops) (Ok t.done))
 
 -- it answers what became of each op
 abbrev pub commit : Manager → List Op → ℕ → Outcome (Result (List Done) CommitFault)
-commit m ops now = unless m (ops_refusal m ops) (commit_tried m now (try_ops now 0 (trial_of m.state) ops))
+commit m ops now =
+    unless m (ops_refusal m ops) (commit_tried m now (try_ops now 0 (trial_of m.state) ops))

@@ -1,6 +1,8 @@
--- The calls link, unlink and resend: how a connection begins and ends, and how it starts sending anew. None writes a record.
+-- The calls link, unlink and resend: how a connection begins and ends, and how it starts sending
+-- anew. None writes a record.
 use Rattle.std.specs.Option.{option_map_or}
-use Rattle.std.specs.Prelude.{◌==◌, None, Ok, Option, Result, Some, if◌then◌else◌, is_none, is_some, map, option_map, slice_get, zip, ℕ}
+use Rattle.std.specs.Prelude.{◌==◌, None, Ok, Option, Result, Some, if◌then◌else◌, is_none, is_some}
+use Rattle.std.specs.Prelude.{map, option_map, slice_get, zip, ℕ}
 use Rattle.mqb_orders.specs.Rows.{Row}
 use Rattle.mqb_session.specs.State.{new_acceptor, new_initiator}
 use Rattle.mqb_session.specs.State as one_end
@@ -15,7 +17,8 @@ use Rattle.mqb_model.specs.state.State.{State}
 
 -- the end of a session that begins, where its peer is there
 abbrev pub session_for : State → Role → ℕ → Option one_end.State
-session_for s (role.Initiator k) window = option_map (λ peer. new_initiator s.identity.guid peer.guid window) (slice_get s.peers k)
+session_for s (role.Initiator k) window =
+    option_map (λ peer. new_initiator s.identity.guid peer.guid window) (slice_get s.peers k)
 session_for s role.Acceptor window = Some (new_acceptor s.identity.guid window)
 
 -- the first of these that holds
@@ -27,7 +30,8 @@ link_refusal m end window = if is_down m then Some fault.Down
 
 -- a session begins
 abbrev pub linking : Manager → Role → ℕ → Outcome (Result (Unit {0}) LinkFault)
-linking m end window = resting m (record m.rest { session = session_for m.state end window }) (Ok tt)
+linking m end window =
+    resting m (record m.rest { session = session_for m.state end window }) (Ok tt)
 
 -- unless it is refused
 abbrev pub link : Manager → Role → ℕ → Outcome (Result (Unit {0}) LinkFault)
@@ -47,4 +51,6 @@ rewound s peer rest = record rest { cursors = map (begun_anew peer) (zip s.outs 
 
 -- the rows to the linked peer are sent again from what is not acknowledged on
 abbrev pub resend : Manager → Outcome (Unit {0})
-resend m = resting m (option_map_or (λ session. rewound m.state (linked_peer m.state session) m.rest) m.rest.session m.rest) tt
+resend m =
+    resting m (option_map_or (λ session. rewound m.state (linked_peer m.state session) m.rest)
+    m.rest.session m.rest) tt

@@ -38,5 +38,6 @@ message_for s now p = message_of (own_id s s.next_number) delivery.Transactional
 
 -- a message that is not transactional: its number is the next of its kind
 abbrev pub plain_message : State → Bool → ℕ → Parts → Message
-plain_message s true now p = message_of (own_id s s.next_number) delivery.Recoverable p.priority now p
+plain_message s true now p =
+    message_of (own_id s s.next_number) delivery.Recoverable p.priority now p
 plain_message s false now p = message_of (own_id s s.next_express) delivery.Express p.priority now p

@@ -18,11 +18,13 @@ purge_entry at now l = if length l.durable == 0 then None else Some (entry.Purge
 
 -- a place that holds this is purged: its durable messages by the record, and then the express ones
 abbrev pub purging : Manager → ℕ → EntryPlace → Lists → Outcome (Result ℕ PurgeFault)
-purging m now at l = writing (purge_entry at now l) (changing m (beside.PurgesExpress now at) (Ok (count l)))
+purging m now at l =
+    writing (purge_entry at now l) (changing m (beside.PurgesExpress now at) (Ok (count l)))
 
 -- the place of a queue's number is purged
 abbrev pub purge_at : Manager → ℕ → EntryPlace → Outcome (Result ℕ PurgeFault)
-purge_at m now at = option_map_or (purging m now at) (lists_at m.state.places at) (answering m (Err fault.NoQueue))
+purge_at m now at =
+    option_map_or (purging m now at) (lists_at m.state.places at) (answering m (Err fault.NoQueue))
 
 -- the first reason against it, the place left aside
 abbrev pub purge_refusal : Manager → Option PurgeFault
@@ -31,4 +33,5 @@ purge_refusal m = if is_down m then Some fault.Down else None
 -- it answers how many messages left
 abbrev pub purge : Manager → Place → ℕ → Outcome (Result ℕ PurgeFault)
 purge m p now = unless m (purge_refusal m)
-    (option_map_or (purge_at m now) (place_named m.state.places.queues p) (answering m (Err fault.NoQueue)))
+    (option_map_or (purge_at m now) (place_named m.state.places.queues p)
+    (answering m (Err fault.NoQueue)))

@@ -1,6 +1,7 @@
 -- The call send, of a message that is not transactional.
 use Rattle.std.specs.Option.{option_map_or, option_or}
-use Rattle.std.specs.Prelude.{◌&&◌, Bool, None, Ok, Option, Result, Some, false, if◌then◌else◌, nat_le, nat_lt, true, ℕ}
+use Rattle.std.specs.Prelude.{◌&&◌, Bool, None, Ok, Option, Result, Some, false, if◌then◌else◌}
+use Rattle.std.specs.Prelude.{nat_le, nat_lt, true, ℕ}
 use Rattle.mqb_base.specs.declared.draft.Parts.{Parts}
 use Rattle.mqb_base.specs.declared.ids.MessageId.{MessageId}
 use Rattle.mqb_base.specs.declared.message.Message.{Message}
@@ -37,14 +38,16 @@ target_fault s (Here (Some number)) = option_map_or queue_fault
 
 -- why it is not sent, the target left aside
 abbrev pub message_fault : State → Bool → Message → Option SendFault
-message_fault s recoverable m = if recoverable && nat_lt MAX_NUMBER s.next_number then Some fault.NumbersSpent
+message_fault s recoverable m =
+    if recoverable && nat_lt MAX_NUMBER s.next_number then Some fault.NumbersSpent
     else if is_too_large headers.Session m then Some fault.TooLarge
     else None
 
 -- the first reason against a message
 abbrev pub send_refusal : Manager → Bool → Message → Option SendFault
 send_refusal m recoverable message = if is_down m then Some fault.Down
-    else option_or (target_fault m.state (resolved m.state message.destination)) (message_fault m.state recoverable message)
+    else option_or (target_fault m.state (resolved m.state message.destination))
+    (message_fault m.state recoverable message)
 
 -- the record of a message that is sent
 abbrev pub plain_entry : State → ℕ → Message → entry.Record
@@ -57,7 +60,8 @@ sending m false message now = changing m (beside.SendsExpress now message) (Ok m
 
 -- unless it is refused
 abbrev pub send_message : Manager → Bool → Message → ℕ → Outcome (Result MessageId SendFault)
-send_message m recoverable message now = unless m (send_refusal m recoverable message) (sending m recoverable message now)
+send_message m recoverable message now =
+    unless m (send_refusal m recoverable message) (sending m recoverable message now)
 
 -- it answers the message's identifier
 abbrev pub send : Manager → Parts → (recoverable : Bool) → ℕ → Outcome (Result MessageId SendFault)

@@ -1,6 +1,7 @@
 -- The call take.
 use Rattle.std.specs.Option.{option_map_or}
-use Rattle.std.specs.Prelude.{Err, None, Ok, Option, Result, Some, if◌then◌else◌, option_and_then, ℕ}
+use Rattle.std.specs.Prelude.{Err, None, Ok, Option, Result, Some, if◌then◌else◌}
+use Rattle.std.specs.Prelude.{option_and_then, ℕ}
 use Rattle.mqb_base.specs.declared.message.Lane.{Lane}
 use Rattle.mqb_base.specs.declared.message.Lane.TheVariants as lane
 use Rattle.mqb_base.specs.declared.message.Message.{Message}
@@ -18,12 +19,14 @@ use Rattle.mqb_model.specs.records.Record as entry
 use Rattle.mqb_model.specs.rules.Takes.{message_at}
 use Rattle.mqb_model.specs.state.State.{State}
 
--- where the first message of a place stands that is not due: of the greatest priority, durable before express, then the oldest
+-- where the first message of a place stands that is not due: of the greatest priority, durable
+-- before express, then the oldest
 abbrev pub first_in : State → EntryPlace → ℕ → Option Position
 first_in s at now = option_and_then (first_position (is_free at now)) (lists_at s.places at)
 
 -- a durable message is taken by a record, and an express one without
-abbrev pub taking : Manager → EntryPlace → ℕ → Lane → ℕ → Message → Outcome (Result Message TakeFault)
+abbrev pub taking : Manager → EntryPlace → ℕ → Lane → ℕ → Message
+    → Outcome (Result Message TakeFault)
 taking m at now lane.Durable k message = recording m (entry.Taken now at message.id) (Ok message)
 taking m at now lane.Express k message = changing m (beside.TakesExpress now at k) (Ok message)
 
@@ -34,7 +37,8 @@ take_position m at now p = option_map_or (taking m at now p.lane p.index)
 
 -- the first message of a place is taken
 abbrev pub take_at : Manager → ℕ → EntryPlace → Outcome (Result Message TakeFault)
-take_at m now at = option_map_or (take_position m at now) (first_in m.state at now) (answering m (Err fault.QueueEmpty))
+take_at m now at = option_map_or (take_position m at now) (first_in m.state at now)
+    (answering m (Err fault.QueueEmpty))
 
 -- the first reason against it, the place left aside
 abbrev pub take_refusal : Manager → Option TakeFault
@@ -43,4 +47,5 @@ take_refusal m = if is_down m then Some fault.Down else None
 -- it answers the message
 abbrev pub take_message : Manager → Place → ℕ → Outcome (Result Message TakeFault)
 take_message m p now = unless m (take_refusal m)
-    (option_map_or (take_at m now) (place_named m.state.places.queues p) (answering m (Err fault.NoQueue)))
+    (option_map_or (take_at m now) (place_named m.state.places.queues p)
+    (answering m (Err fault.NoQueue)))

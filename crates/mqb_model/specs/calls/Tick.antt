@@ -21,7 +21,8 @@ due_counts s now = record { durable = durable_due s now; express = lane_due lane
 
 -- what is due leaves: the durable messages by the record, and then the express ones
 abbrev pub ticking : Manager → ℕ → Outcome (Result Ticked StoreFault)
-ticking m now = writing (tick_entry m.state now) (changing m (beside.TicksExpress now) (Ok (due_counts m.state now)))
+ticking m now = writing (tick_entry m.state now)
+    (changing m (beside.TicksExpress now) (Ok (due_counts m.state now)))
 
 -- it answers how many messages left
 abbrev pub tick : Manager → ℕ → Outcome (Result Ticked StoreFault)

@@ -1,4 +1,5 @@
--- A store decides the same whatever express messages and marks stand beside it, and what is done beside a record leaves it.
+-- A store decides the same whatever express messages and marks stand beside it, and what is done
+-- beside a record leaves it.
 use Rattle.std.specs.Prelude.{◌≡◌, List, false, fold, true, ℕ}
 use Rattle.mqb_base.specs.declared.class.Class.{Class}
 use Rattle.mqb_base.specs.declared.heads.TxHead.{TxHead}
@@ -39,7 +40,8 @@ use Rattle.mqb_model.specs.state.Places.{is_express}
 use Rattle.mqb_model.specs.state.State.{State}
 use Rattle.mqb_model.specs.state.Valid.{IsValidState}
 
--- What follows when a durable message meets a class reads and changes nothing but what a store stands for.
+-- What follows when a durable message meets a class reads and changes nothing but
+-- what a store stands for.
 abbrev pub MeetsDurably : Type 0
 MeetsDurably = (s : State) (m : Message) (class : Class) (now : ℕ) → is_express m.delivery ≡ false
     → meets (durable s) m class now ≡ durable (meets s m class now)
@@ -48,19 +50,24 @@ MeetsDurably = (s : State) (m : Message) (class : Class) (now : ℕ) → is_expr
 abbrev pub durable_effect : Effect → Effect
 durable_effect e = record { state = durable e.state; lines = e.lines }
 
--- The steps of records that send, release, decide and store do to what a store stands for what they do to the state, with the same lines.
+-- The steps of records that send, release, decide and store do to what a store stands for what they
+-- do to the state, with the same lines.
 pub record StepsAreDurable : Type 0 where
-  pub peer_added : (s : State) (peer : Identity) → begun (with_peer (durable s) peer) ≡ durable_effect (begun (with_peer s peer))
+  pub peer_added : (s : State) (peer : Identity)
+      → begun (with_peer (durable s) peer) ≡ durable_effect (begun (with_peer s peer))
   pub queue_made : (s : State) (given : QueuePlan)
       → begun (with_new_queue (durable s) given) ≡ durable_effect (begun (with_new_queue s given))
-  pub marks_offered : (s : State) (marks : List Mark) → offered_effect (durable s) marks ≡ durable_effect (offered_effect s marks)
+  pub marks_offered : (s : State) (marks : List Mark)
+      → offered_effect (durable s) marks ≡ durable_effect (offered_effect s marks)
   pub plain : (s : State) (now : ℕ) (p : UserPacket) → is_express p.message.delivery ≡ false
       → plain_effect (durable s) now p ≡ durable_effect (plain_effect s now p)
   pub sent : (now : ℕ) (s : State) (m : Message) → is_express m.delivery ≡ false
       → message_sent now (durable s) m ≡ durable_effect (message_sent now s m)
   pub released : (e : Effect) (numbers : List ℕ)
-      → fold message_released (durable_effect e) numbers ≡ durable_effect (fold message_released e numbers)
-  pub decided : (now : ℕ) (s : State) (p : UserPacket) (tx : TxHead) → is_express p.message.delivery ≡ false
+      → fold message_released (durable_effect e) numbers
+      ≡ durable_effect (fold message_released e numbers)
+  pub decided : (now : ℕ) (s : State) (p : UserPacket) (tx : TxHead)
+      → is_express p.message.delivery ≡ false
       → message_decided now (durable s) p tx ≡ durable_effect (message_decided now s p tx)
   pub stored : (now : ℕ) (s : State) (p : UserPacket) → is_express p.message.delivery ≡ false
       → message_stored now (durable s) p ≡ durable_effect (message_stored now s p)
@@ -70,11 +77,14 @@ pub record LeavingIsDurable : Type 0 where
   pub takes : (at : EntryPlace) (id : MessageId) (now : ℕ) (s : State) → IsValidState s
       → taken at id now (begun (durable s)) ≡ durable_effect (taken at id now (begun s))
   pub purges : (at : EntryPlace) (now : ℕ) (s : State) → IsValidState s
-      → purged lane.Durable at now (begun (durable s)) ≡ durable_effect (purged lane.Durable at now (begun s))
-  pub ticks : (now : ℕ) (s : State) → IsValidState s → lane_ticked lane.Durable now (rows_expired now (begun (durable s)))
+      → purged lane.Durable at now (begun (durable s))
+      ≡ durable_effect (purged lane.Durable at now (begun s))
+  pub ticks : (now : ℕ) (s : State) → IsValidState s
+      → lane_ticked lane.Durable now (rows_expired now (begun (durable s)))
       ≡ durable_effect (lane_ticked lane.Durable now (rows_expired now (begun s)))
 
--- A record that fits a valid state does to what a store stands for what it does to the state, with the same lines.
+-- A record that fits a valid state does to what a store stands for what it does to the state,
+-- with the same lines.
 abbrev pub DurableIsApplied : Type 0
 DurableIsApplied = (s : State) (r : Record) → IsValidState s → fits s r ≡ true
     → effect_of (durable s) r ≡ durable_effect (effect_of s r)

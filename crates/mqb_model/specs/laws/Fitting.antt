@@ -97,4 +97,5 @@ RecordsAreRead = (m : Manager) → ReadRecords m
 
 -- The packets that a valid manager pumps can be heard.
 abbrev pub PumpedIsReadable : Type 0
-PumpedIsReadable = (m : Manager) → IsValidManager m → (now : ℕ) → All IsReadable (pump m now).packets
+PumpedIsReadable =
+    (m : Manager) → IsValidManager m → (now : ℕ) → All IsReadable (pump m now).packets

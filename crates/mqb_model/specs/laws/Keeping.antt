@@ -29,30 +29,36 @@ use Rattle.mqb_model.specs.state.Valid.{IsValidState}
 
 -- It does where a peer joins, whose host is a name.
 abbrev pub AddedPeerIsValid : Type 0
-AddedPeerIsValid = (s : State) (peer : Identity) → IsValidState s → IsName peer.host → fits s (entry.Peer peer) ≡ true
+AddedPeerIsValid = (s : State) (peer : Identity) → IsValidState s → IsName peer.host
+    → fits s (entry.Peer peer) ≡ true
     → IsValidState (apply s (entry.Peer peer))
 
 -- It does where a queue joins.
 abbrev pub MadeQueueIsValid : Type 0
-MadeQueueIsValid = (s : State) (number : ℕ) (plan : QueuePlan) → IsValidState s → fits s (entry.CreateQueue number plan) ≡ true
+MadeQueueIsValid = (s : State) (number : ℕ) (plan : QueuePlan) → IsValidState s
+    → fits s (entry.CreateQueue number plan) ≡ true
     → IsValidState (apply s (entry.CreateQueue number plan))
 
 -- It does where sequences were offered.
 abbrev pub OfferedIsValid : Type 0
-OfferedIsValid = (s : State) (marks : List Mark) → IsValidState s → fits s (entry.Offered marks) ≡ true
+OfferedIsValid =
+    (s : State) (marks : List Mark) → IsValidState s → fits s (entry.Offered marks) ≡ true
     → IsValidState (apply s (entry.Offered marks))
 
 -- A valid manager for which a connection begins is valid, and so is one whose call is refused.
 abbrev pub LinkedIsValid : Type 0
-LinkedIsValid = (m : Manager) (end : Role) (window : ℕ) → IsValidManager m → IsValidManager (succeeded m (link m end window))
+LinkedIsValid = (m : Manager) (end : Role) (window : ℕ) → IsValidManager m
+    → IsValidManager (succeeded m (link m end window))
 
 -- It does where a message is taken.
 abbrev pub TakenIsValid : Type 0
-TakenIsValid = (s : State) (now : ℕ) (at : EntryPlace) (id : MessageId) → IsValidState s → IsValidState (apply s (entry.Taken now at id))
+TakenIsValid = (s : State) (now : ℕ) (at : EntryPlace) (id : MessageId) → IsValidState s
+    → IsValidState (apply s (entry.Taken now at id))
 
 -- It does where a place is purged.
 abbrev pub PurgedIsValid : Type 0
-PurgedIsValid = (s : State) (now : ℕ) (at : EntryPlace) → IsValidState s → IsValidState (apply s (entry.Purged now at))
+PurgedIsValid = (s : State) (now : ℕ) (at : EntryPlace) → IsValidState s
+    → IsValidState (apply s (entry.Purged now at))
 
 -- It does where what is due leaves.
 abbrev pub TickedIsValid : Type 0
@@ -60,22 +66,27 @@ TickedIsValid = (s : State) (now : ℕ) → IsValidState s → IsValidState (app
 
 -- It does where a recoverable message is sent.
 abbrev pub SentIsValid : Type 0
-SentIsValid = (s : State) (now : ℕ) (p : UserPacket) → IsValidState s → IsRecorded p.message → fits s (entry.Plain now p) ≡ true
+SentIsValid = (s : State) (now : ℕ) (p : UserPacket) → IsValidState s → IsRecorded p.message
+    → fits s (entry.Plain now p) ≡ true
     → IsValidState (apply s (entry.Plain now p))
 
 -- It does where messages are released and something arrives.
 abbrev pub ArrivedIsValid : Type 0
-ArrivedIsValid = (s : State) (now : ℕ) (numbers : List ℕ) (part : Part) → IsValidState s → IsRecordedPart part
-    → fits s (entry.Arrived now numbers part) ≡ true → IsValidState (apply s (entry.Arrived now numbers part))
+ArrivedIsValid =
+    (s : State) (now : ℕ) (numbers : List ℕ) (part : Part) → IsValidState s → IsRecordedPart part
+    → fits s (entry.Arrived now numbers part) ≡ true
+    → IsValidState (apply s (entry.Arrived now numbers part))
 
 -- It does where a transaction is made.
 abbrev pub CommitIsValid : Type 0
-CommitIsValid = (s : State) (now : ℕ) (ops : List RecordOp) → IsValidState s → All IsRecorded (sends_of ops) → fits s (entry.Commit now ops) ≡ true
+CommitIsValid = (s : State) (now : ℕ) (ops : List RecordOp) → IsValidState s
+    → All IsRecorded (sends_of ops) → fits s (entry.Commit now ops) ≡ true
     → IsValidState (apply s (entry.Commit now ops))
 
 -- A valid state stays valid by each record that was read and fits.
 abbrev pub AppliedIsValid : Type 0
-AppliedIsValid = (s : State) (r : Record) → IsValidState s → IsRead r → fits s r ≡ true → IsValidState (apply s r)
+AppliedIsValid = (s : State) (r : Record) → IsValidState s → IsRead r → fits s r ≡ true
+    → IsValidState (apply s r)
 
 -- No record changes the identity of a manager.
 abbrev pub RecordsKeepIdentities : Type 0

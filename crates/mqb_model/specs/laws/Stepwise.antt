@@ -7,4 +7,5 @@ use Rattle.mqb_model.specs.state.State.{State}
 
 -- the law
 abbrev pub StepwiseIsEffect : Type 0
-StepwiseIsEffect = (s : State) (r : Record) → stepwise s r ≡ (if fits s r then Some (effect_of s r) else None)
+StepwiseIsEffect =
+    (s : State) (r : Record) → stepwise s r ≡ (if fits s r then Some (effect_of s r) else None)

@@ -26,7 +26,8 @@ abbrev pub FailedIsValid : Type 0
 FailedIsValid = (m : Manager) (r : Option Record) → IsValidManager m → IfSome r (IsWritable m.state)
     → IsValidManager (failed_under m r)
 
--- A manager that is started again over a store is valid where the state is that the store stands for.
+-- A manager that is started again over a store is valid where the state is that
+-- the store stands for.
 abbrev pub RestartedIsValid : Type 0
 RestartedIsValid = (s : State) → IsValidState s → IsValidManager (unlinked (durable s))
 
@@ -40,7 +41,8 @@ UnreadIsValid = (m : Manager) → IsValidManager m → IsValidManager (unread m)
 
 -- A call that changes nothing, as one that is refused, leaves a valid manager as it was.
 abbrev pub RefusedIsSame : Type 0
-RefusedIsSame = (m : Manager) (answer : Bool) → IsValidManager m → succeeded m (answering m answer) ≡ m
+RefusedIsSame =
+    (m : Manager) (answer : Bool) → IsValidManager m → succeeded m (answering m answer) ≡ m
 
 -- A valid manager whose connection ends is valid.
 abbrev pub UnlinkedIsValid : Type 0

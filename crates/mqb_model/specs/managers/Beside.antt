@@ -19,7 +19,8 @@ use Rattle.mqb_model.specs.rules.Timeouts.{lane_ticked}
 use Rattle.mqb_model.specs.state.Places.{with_plain}
 use Rattle.mqb_model.specs.state.State.{State}
 
--- where a packet of a pump comes from: an incoming row that owes an acknowledgement, the plain messages for the peer, or a number of an outgoing row
+-- where a packet of a pump comes from: an incoming row that owes an acknowledgement, the plain
+-- messages for the peer, or a number of an outgoing row
 pub data Origin : Type 0 where
   Owed : (row : ℕ) → Origin
   OfRecoverable : Origin
@@ -82,5 +83,6 @@ beside_done (PurgesExpress now at) s = (purged lane.Express at now (begun s)).st
 beside_done (TicksExpress now) s = (lane_ticked lane.Express now (begun s)).state
 beside_done Unmarks s = record s { plain = map all_unmarked s.plain }
 beside_done (DropsExpress peer number) s = with_plain (without_acked number) s peer
-beside_done (HearsExpress peer number now m refusal) s = arrived (with_plain (without_acked number) s peer) m now refusal
+beside_done (HearsExpress peer number now m refusal) s =
+    arrived (with_plain (without_acked number) s peer) m now refusal
 beside_done (NotesSent peer sent) s = fold (noted peer) s sent

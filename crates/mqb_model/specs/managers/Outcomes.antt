@@ -10,8 +10,8 @@ use Rattle.mqb_model.specs.records.Applying.{apply, lines_of}
 use Rattle.mqb_model.specs.records.Record.{Record}
 use Rattle.mqb_model.specs.state.State.{State}
 
--- The answer, whether the disk is called, the record that is written, what is done beside it, the rest after it, and the packets that go out.
--- A record is written only where the disk is called.
+-- The answer, whether the disk is called, the record that is written, what is done beside it, the
+-- rest after it, and the packets that go out. A record is written only where the disk is called.
 pub record Outcome (A : Type 0) : Type 0 where
   pub answer : A
   pub touches : Bool
@@ -48,7 +48,8 @@ abbrev pub resting : {A : Type 0} → Manager → Rest → A → Outcome A
 resting m rest answer = record (answering m answer) { rest = rest }
 
 -- a call that is refused changes nothing
-abbrev pub unless : {V E : Type 0} → Manager → Option E → Outcome (Result V E) → Outcome (Result V E)
+abbrev pub unless : {V E : Type 0} → Manager → Option E → Outcome (Result V E)
+    → Outcome (Result V E)
 unless m (Some fault) outcome = answering m (Err fault)
 unless m None outcome = outcome
 
@@ -66,7 +67,8 @@ lines_after m outcome = option_map_or (lines_of m.state) outcome.entry []
 
 -- the manager after a call that went well
 abbrev pub succeeded : {A : Type 0} → Manager → Outcome A → Manager
-succeeded m outcome = record m { state = state_after m outcome; rest = rest_for (state_after m outcome) outcome.rest }
+succeeded m outcome =
+    record m { state = state_after m outcome; rest = rest_for (state_after m outcome) outcome.rest }
 
 -- a manager whose disk fails is down, and what it was to write is in doubt
 abbrev pub failed_under : Manager → Option Record → Manager

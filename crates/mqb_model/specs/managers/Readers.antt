@@ -22,8 +22,11 @@ awaits peer row = row.peer == peer && has_unacknowledged row
 
 -- something for the peer at an index is not acknowledged yet
 abbrev pub is_outstanding_to : State → ℕ → Bool
-is_outstanding_to s k = option_map_or has_plain (slice_get s.plain k) false || list_any (awaits k) s.outs
+is_outstanding_to s k =
+    option_map_or has_plain (slice_get s.plain k) false || list_any (awaits k) s.outs
 
 -- something for the linked peer is
 abbrev pub is_outstanding : Manager → Bool
-is_outstanding m = option_map_or (λ session. is_outstanding_to m.state (linked_peer m.state session)) m.rest.session false
+is_outstanding m =
+    option_map_or (λ session. is_outstanding_to m.state (linked_peer m.state session))
+    m.rest.session false

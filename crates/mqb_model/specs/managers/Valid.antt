@@ -1,5 +1,6 @@
 -- Which managers are valid.
-use Rattle.std.specs.Prelude.{[], ◌++◌, ◌+◌, ◌==◌, ◌∷◌, ◌≡◌, ◌≤◌, All, Bool, IfSome, IsNone, IsSome, List, None, Option, Some, false, flat_map, length, true, ℕ}
+use Rattle.std.specs.Prelude.{[], ◌++◌, ◌+◌, ◌==◌, ◌∷◌, ◌≡◌, ◌≤◌, All, Bool, IfSome, IsNone, IsSome}
+use Rattle.std.specs.Prelude.{List, None, Option, Some, false, flat_map, length, true, ℕ}
 use Rattle.mqb_base.specs.declared.message.Message.{Message}
 use Rattle.mqb_packet.specs.declared.packet.Headers.TheVariants as headers
 use Rattle.mqb_plain.specs.Lists.{InOrder, messages_of}
@@ -26,7 +27,8 @@ express_placed s = flat_map (λ q. q.lists.express ++ q.journal.express) s.place
 abbrev pub express_waiting : State → List Message
 express_waiting s = flat_map (λ p. messages_of p.express) s.plain
 
--- express lists have express messages alone, which can be carried, and express numbers are in their range
+-- express lists have express messages alone, which can be carried, and express
+-- numbers are in their range
 pub record IsExpressValid (s : State) : Type 0 where
   pub placed : All (IsCarried headers.Bare) (express_placed s)
   pub waiting : All (IsCarried headers.Session) (express_waiting s)
@@ -54,10 +56,12 @@ abbrev pub MayBear : Bool → one_end.State → PlainLists → Type 0
 MayBear true session p = IsSentIn session p
 MayBear false session p = IsUnsent p
 
--- The messages for the peer of a session, at an index, were sent in it, and those for the others from an index on were not sent.
+-- The messages for the peer of a session, at an index, were sent in it, and those for the others
+-- from an index on were not sent.
 abbrev pub BearMarks : one_end.State → ℕ → ℕ → List PlainLists → Type 0
 BearMarks session peer k [] = Unit {0}
-BearMarks session peer k (p ∷ ps) = MayBear (k == peer) session p × BearMarks session peer (k + 1) ps
+BearMarks session peer k (p ∷ ps) =
+    MayBear (k == peer) session p × BearMarks session peer (k + 1) ps
 
 -- a session of a manager: its own GUID and its peer are known, and the marks are what it sent
 pub record IsSessionOf (s : State) (session : one_end.State) : Type 0 where

@@ -25,7 +25,8 @@ roll_by (Roll count) before = count
 abbrev pub with_setting : State → Setting → State
 with_setting s setting = record s { roll = roll_by setting s.roll }
 
--- The state that a record leaves, and its lines. An identity is a first record alone, and changes nothing later.
+-- The state that a record leaves, and its lines. An identity is a first record alone, and
+-- changes nothing later.
 abbrev pub effect_of : State → Record → Effect
 effect_of s (entry.Identity identity) = begun s
 effect_of s (entry.Peer peer) = begun (with_peer s peer)

@@ -16,16 +16,19 @@ use Rattle.mqb_model.specs.state.State.{State}
 -- what follows a part
 abbrev pub part_made : ℕ → Effect → Part → Effect
 part_made now e Nothing = e
-part_made now e (Decided p) = option_map_or (λ tx. joined e (message_decided now e.state p tx)) p.tx e
+part_made now e (Decided p) =
+    option_map_or (λ tx. joined e (message_decided now e.state p tx)) p.tx e
 part_made now e (Stored p) = joined e (message_stored now e.state p)
-part_made now e (OrderAcknowledged ordinal number) = without_line e (with_row (acknowledged number) e.state ordinal)
+part_made now e (OrderAcknowledged ordinal number) =
+    without_line e (with_row (acknowledged number) e.state ordinal)
 part_made now e (Final p) = joined e (final_stored e.state p.message)
 
 -- The released messages leave, and then what arrived is dealt with.
 abbrev pub arrived_effect : State → ℕ → List ℕ → Part → Effect
 arrived_effect s now numbers part = part_made now (releases_made s numbers) part
 
--- an order acknowledgement raises a row's mark: its number is above the acknowledged one and was offered
+-- an order acknowledgement raises a row's mark: its number is above the
+-- acknowledged one and was offered
 abbrev pub raises_ack : ℕ → Row → Bool
 raises_ack number row = nat_lt row.acked number && nat_le number row.offered
 
@@ -37,10 +40,13 @@ is_from_peer s m = is_some (peer_known s m.id.qm)
 abbrev pub part_fits : State → Part → Bool
 part_fits s Nothing = true
 part_fits s (Decided p) = is_from_peer s p.message && decided_fits s p
-part_fits s (Stored p) = is_from_peer s p.message && is_recoverable p.message.delivery && not (is_final s p.message)
-part_fits s (OrderAcknowledged ordinal number) = option_map_or (raises_ack number) (row_of_ordinal s ordinal) false
+part_fits s (Stored p) =
+    is_from_peer s p.message && is_recoverable p.message.delivery && not (is_final s p.message)
+part_fits s (OrderAcknowledged ordinal number) =
+    option_map_or (raises_ack number) (row_of_ordinal s ordinal) false
 part_fits s (Final p) = is_from_peer s p.message && is_final s p.message
 
 -- the released messages are there, and what arrived fits once they left
 abbrev pub arrived_fits : State → List ℕ → Part → Bool
-arrived_fits s numbers part = releases_fit (begun s) numbers && part_fits (releases_made s numbers).state part
+arrived_fits s numbers part =
+    releases_fit (begun s) numbers && part_fits (releases_made s numbers).state part

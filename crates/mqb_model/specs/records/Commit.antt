@@ -1,5 +1,6 @@
 -- The record Commit: what it does, and when it fits.
-use Rattle.std.specs.Prelude.{[], ◌&&◌, ◌+◌, ◌∷◌, Bool, List, None, Option, Some, filter_map, fold, is_some, length, true, ℕ}
+use Rattle.std.specs.Prelude.{[], ◌&&◌, ◌+◌, ◌∷◌, Bool, List, None, Option, Some, filter_map, fold}
+use Rattle.std.specs.Prelude.{is_some, length, true, ℕ}
 use Rattle.mqb_base.specs.declared.ids.MessageId.{MessageId}
 use Rattle.mqb_base.specs.declared.message.Message.{Message}
 use Rattle.mqb_base.specs.declared.queue_names.QueueName.{QueueName}
@@ -52,7 +53,8 @@ commit_effect s now ops = fold (send_made now) (takes_made s now ops) (sends_of 
 -- each packet bears the next number
 abbrev pub sends_fit : State → ℕ → List RecordOp → Bool
 sends_fit s number [] = true
-sends_fit s number (Send p ∷ ops) = is_sendable s headers.TxAndSession number p && sends_fit s (number + 1) ops
+sends_fit s number (Send p ∷ ops) =
+    is_sendable s headers.TxAndSession number p && sends_fit s (number + 1) ops
 sends_fit s number (Take queue id ∷ ops) = sends_fit s number ops
 
 -- a message that is taken is there

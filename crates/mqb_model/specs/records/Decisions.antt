@@ -1,6 +1,7 @@
 -- Messages that arrive by a record: transactional ones are decided, and recoverable ones stored.
 use Rattle.std.specs.Option.{option_map_or}
-use Rattle.std.specs.Prelude.{[], ◌&&◌, ◌++◌, ◌∷◌, Bool, None, Option, Some, false, slice_set, true, ℕ}
+use Rattle.std.specs.Prelude.{[], ◌&&◌, ◌++◌, ◌∷◌, Bool, None, Option, Some, false, slice_set}
+use Rattle.std.specs.Prelude.{true, ℕ}
 use Rattle.mqb_base.specs.declared.class.Class.{Class}
 use Rattle.mqb_base.specs.declared.heads.TxHead.{TxHead}
 use Rattle.mqb_base.specs.declared.ledger.Line.{Line}
@@ -21,12 +22,18 @@ use Rattle.mqb_model.specs.state.State.{State}
 
 -- the incoming row once a message was decided
 abbrev pub decided_row : Message → TxHead → InRow
-decided_row m tx = record { source = m.id.qm; destination = m.destination; sequence = tx.sequence; last = tx.number }
+decided_row m tx = record {
+  source = m.id.qm;
+  destination = m.destination;
+  sequence = tx.sequence;
+  last = tx.number;
+}
 
 -- it stands in the place of the row before it, or behind the others
 abbrev pub with_decided : State → Message → TxHead → State
 with_decided s m tx = record s {
-  ins = option_map_or (λ k. slice_set s.ins k (decided_row m tx)) (in_index s m) (s.ins ++ decided_row m tx ∷ []);
+  ins = option_map_or (λ k. slice_set s.ins k (decided_row m tx)) (in_index s m)
+      (s.ins ++ decided_row m tx ∷ []);
 }
 
 -- the stream of a message that is heard

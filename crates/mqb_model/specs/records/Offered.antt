@@ -22,7 +22,8 @@ offered_effect s marks = begun (fold mark_raised s marks)
 
 -- a mark is of a number that the row keeps, above what was offered
 abbrev pub raises_offer : Mark → Row → Bool
-raises_offer mark row = nat_lt row.offered mark.number && list_any (λ k. k.number == mark.number) row.kept
+raises_offer mark row =
+    nat_lt row.offered mark.number && list_any (λ k. k.number == mark.number) row.kept
 
 -- its row is there
 abbrev pub mark_fits : State → Mark → Bool

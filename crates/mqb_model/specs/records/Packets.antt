@@ -18,7 +18,8 @@ use Rattle.mqb_model.specs.state.State.{State}
 abbrev pub is_too_large : Headers → Message → Bool
 is_too_large headers m = nat_lt MAX_PACKET (message_size headers m)
 
--- the packet by which a record tells of a message for a target: it has the recoverable bit, and no further headers
+-- the packet by which a record tells of a message for a target: it has the recoverable bit,
+-- and no further headers
 abbrev pub packet_to : State → Target → Message → UserPacket
 packet_to s target m = record {
   message = record m { delivery = delivery.Recoverable };
@@ -37,11 +38,13 @@ abbrev pub is_recoverable : Delivery → Bool
 is_recoverable delivery.Recoverable = true
 is_recoverable _ = false
 
--- a packet bears the manager's GUID and this number, the recoverable bit and no further headers, and goes to where its destination leads
+-- a packet bears the manager's GUID and this number, the recoverable bit and no further headers,
+-- and goes to where its destination leads
 abbrev pub is_own_packet : State → ℕ → UserPacket → Bool
 is_own_packet s number p = is_numbered s number p.message && nat_le number MAX_NUMBER
     && is_recoverable p.message.delivery && is_none p.tx && is_none p.session
-    && is_found (resolved s p.message.destination) && same_guid p.to (guid_at s (resolved s p.message.destination))
+    && is_found (resolved s p.message.destination)
+    && same_guid p.to (guid_at s (resolved s p.message.destination))
 
 -- and can be sent with these headers
 abbrev pub is_sendable : State → Headers → ℕ → UserPacket → Bool

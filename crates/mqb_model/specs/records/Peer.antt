@@ -1,7 +1,9 @@
--- The records Peer and CreateQueue: what they do, and when they fit. The calls that make them are refused by the same words.
+-- The records Peer and CreateQueue: what they do, and when they fit. The calls that make them are
+-- refused by the same words.
 use Rattle.std.specs.List.{list_any}
 use Rattle.std.specs.Option.{option_map_or}
-use Rattle.std.specs.Prelude.{[], ◌&&◌, ◌++◌, ◌+◌, ◌==◌, ◌||◌, ◌∷◌, Bool, false, length, nat_lt, not, ℕ}
+use Rattle.std.specs.Prelude.{[], ◌&&◌, ◌++◌, ◌+◌, ◌==◌, ◌||◌, ◌∷◌, Bool, false, length, nat_lt}
+use Rattle.std.specs.Prelude.{not, ℕ}
 use Rattle.mqb_base.specs.Same.{same_guid, same_ignoring_case}
 use Rattle.mqb_base.specs.declared.ids.Identity.{Identity}
 use Rattle.mqb_base.specs.declared.queues.QueuePlan.{QueuePlan}
@@ -18,7 +20,8 @@ is_met a b = same_guid a.guid b.guid || same_ignoring_case a.host b.host
 
 -- a manager is this one or a peer
 abbrev pub peer_there : State → Identity → Bool
-peer_there s identity = is_met s.identity identity || list_any (λ peer. is_met peer identity) s.peers
+peer_there s identity =
+    is_met s.identity identity || list_any (λ peer. is_met peer identity) s.peers
 
 -- a peer joins the others, and no message waits for it
 abbrev pub with_peer : State → Identity → State
@@ -50,4 +53,5 @@ next_queue s = length s.places.queues + 1
 
 -- it is new, its number is the next, and there is room for one more
 abbrev pub queue_fits : State → ℕ → QueuePlan → Bool
-queue_fits s number plan = number == next_queue s && not (queue_there s plan) && nat_lt (length s.places.queues) MAX_QUEUES
+queue_fits s number plan =
+    number == next_queue s && not (queue_there s plan) && nat_lt (length s.places.queues) MAX_QUEUES

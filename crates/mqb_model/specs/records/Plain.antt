@@ -18,7 +18,8 @@ plain_lines s m = if is_here (resolved s m.destination) then line.Local m.id ∷
 
 -- a recoverable message takes its number and is sent
 abbrev pub plain_effect : State → ℕ → UserPacket → Effect
-plain_effect s now p = record { state = plain_sent (numbers_taken s 1) p.message now; lines = plain_lines s p.message }
+plain_effect s now p =
+    record { state = plain_sent (numbers_taken s 1) p.message now; lines = plain_lines s p.message }
 
 -- its packet bears the next number
 abbrev pub plain_fits : State → UserPacket → Bool

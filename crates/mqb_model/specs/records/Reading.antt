@@ -1,5 +1,6 @@
 -- The record that bytes are.
-use Rattle.std.specs.Prelude.{[], ◌∷◌, List, None, Option, Some, map, option_and_then, option_map, ℕ}
+use Rattle.std.specs.Prelude.{[], ◌∷◌, List, None, Option, Some, map, option_and_then}
+use Rattle.std.specs.Prelude.{option_map, ℕ}
 use Rattle.std.specs.Result.{result_ok}
 use Rattle.mqb_base.specs.declared.ids.Identity.{Identity}
 use Rattle.mqb_base.specs.declared.queues.QueuePlan.{QueuePlan}
@@ -27,7 +28,8 @@ as_user _ = None
 
 -- the user packet that bytes spell, in whatever spelling
 abbrev pub user_packet_of : List ℕ → Option UserPacket
-user_packet_of bytes = option_and_then as_user (option_and_then packet_in (result_ok (packet_of bytes)))
+user_packet_of bytes =
+    option_and_then as_user (option_and_then packet_in (result_ok (packet_of bytes)))
 
 -- the identity that an entry shows
 abbrev pub identity_of : IdentityView → Identity
@@ -35,7 +37,13 @@ identity_of v = record { host = v.host; guid = v.guid; address = v.address }
 
 -- the plan that an entry shows
 abbrev pub plan_of : QueueView → QueuePlan
-plan_of v = record { name = v.name; public = v.public; transactional = v.transactional; quota = v.quota; journal = v.journal }
+plan_of v = record {
+  name = v.name;
+  public = v.public;
+  transactional = v.transactional;
+  quota = v.quota;
+  journal = v.journal;
+}
 
 -- the op that an entry shows
 abbrev pub op_of : OpView → Option RecordOp
@@ -60,10 +68,12 @@ abbrev pub record_in : Entry → Option Record
 record_in (form.Identity v) = Some (entry.Identity (identity_of v))
 record_in (form.Peer v) = Some (entry.Peer (identity_of v))
 record_in (form.CreateQueue v) = Some (entry.CreateQueue v.number (plan_of v))
-record_in (form.Commit now ops) = option_map (λ ops. entry.Commit now ops) (all_some (map op_of ops))
+record_in (form.Commit now ops) =
+    option_map (λ ops. entry.Commit now ops) (all_some (map op_of ops))
 record_in (form.Plain now bytes) = option_map (λ p. entry.Plain now p) (user_packet_of bytes)
 record_in (form.Offered marks) = Some (entry.Offered marks)
-record_in (form.Arrived now released part) = option_map (λ part. entry.Arrived now released part) (part_of part)
+record_in (form.Arrived now released part) =
+    option_map (λ part. entry.Arrived now released part) (part_of part)
 record_in (form.Taken now at id) = Some (entry.Taken now at id)
 record_in (form.Purged now at) = Some (entry.Purged now at)
 record_in (form.Ticked now) = Some (entry.Ticked now)

@@ -7,7 +7,8 @@ use Rattle.mqb_base.specs.declared.queues.QueuePlan.{QueuePlan}
 use Rattle.mqb_entries.specs.declared.members.Mark.{Mark}
 use Rattle.mqb_packet.specs.declared.packet.UserPacket.{UserPacket}
 
--- one op of a transaction: the packet of a message that is sent, or the message that is taken from the queue of a number
+-- one op of a transaction: the packet of a message that is sent, or the message that is taken from
+-- the queue of a number
 pub data RecordOp : Type 0 where
   Send : UserPacket → RecordOp
   Take : (queue : ℕ) → MessageId → RecordOp

@@ -15,7 +15,8 @@ is_released_by s number o = is_numbered s number o.message
 
 -- the recoverable message of a number leaves the list that has it
 abbrev pub without_recoverable : State → ℕ → PlainLists → PlainLists
-without_recoverable s number p = record p { recoverable = without_first (is_released_by s number) p.recoverable }
+without_recoverable s number p =
+    record p { recoverable = without_first (is_released_by s number) p.recoverable }
 
 -- a peer's recoverable list has the message of a number
 abbrev pub has_recoverable : State → ℕ → PlainLists → Bool
@@ -29,7 +30,8 @@ without_released s number = record s {
 
 -- the message of a number is released
 abbrev pub message_released : Effect → ℕ → Effect
-message_released e number = joined e (with_line (line.Released (own_id e.state number)) (without_released e.state number))
+message_released e number =
+    joined e (with_line (line.Released (own_id e.state number)) (without_released e.state number))
 
 -- each is
 abbrev pub releases_made : State → List ℕ → Effect
@@ -42,4 +44,5 @@ release_fits s number = list_any (has_recoverable s number) s.plain
 -- each is, after the releases before it
 abbrev pub releases_fit : Effect → List ℕ → Bool
 releases_fit e [] = true
-releases_fit e (number ∷ numbers) = release_fits e.state number && releases_fit (message_released e number) numbers
+releases_fit e (number ∷ numbers) =
+    release_fits e.state number && releases_fit (message_released e number) numbers

@@ -1,11 +1,14 @@
--- A record is tried step by step, each step on the state that those before it leave, up to the first that does not fit.
-use Rattle.std.specs.Prelude.{[], ◌∷◌, List, None, Option, Some, if◌then◌else◌, option_and_then, option_map, ℕ}
+-- A record is tried step by step, each step on the state that those before it leave, up to the
+-- first that does not fit.
+use Rattle.std.specs.Prelude.{[], ◌∷◌, List, None, Option, Some, if◌then◌else◌, option_and_then}
+use Rattle.std.specs.Prelude.{option_map, ℕ}
 use Rattle.mqb_base.specs.declared.message.Message.{Message}
 use Rattle.mqb_base.specs.declared.queues.EntryPlace.TheVariants as place
 use Rattle.mqb_entries.specs.declared.members.Mark.{Mark}
 use Rattle.mqb_model.specs.records.Applying.{effect_of, fits}
 use Rattle.mqb_model.specs.records.Arrived.{part_fits, part_made}
-use Rattle.mqb_model.specs.records.Commit.{join_fits, send_made, sends_fit, sends_numbered, sends_of, take_fits}
+use Rattle.mqb_model.specs.records.Commit.{join_fits, send_made, sends_fit, sends_numbered}
+use Rattle.mqb_model.specs.records.Commit.{sends_of, take_fits}
 use Rattle.mqb_model.specs.records.Offered.{mark_fits, mark_raised}
 use Rattle.mqb_model.specs.records.Record.{Part, Record, RecordOp, Send, Take}
 use Rattle.mqb_model.specs.records.Record as entry
@@ -33,13 +36,15 @@ sends_stepwise now e (m ∷ ms) = if join_fits e.state (resolved e.state m.desti
 -- the packets are looked at first, then the takes are made, and then the sends
 abbrev pub commit_stepwise : State → ℕ → List RecordOp → Option Effect
 commit_stepwise s now ops = if sends_fit s s.next_number ops
-    then option_and_then (λ e. sends_stepwise now e (sends_of ops)) (takes_stepwise now (sends_numbered s ops) ops)
+    then option_and_then (λ e. sends_stepwise now e (sends_of ops))
+    (takes_stepwise now (sends_numbered s ops) ops)
     else None
 
 -- marks, one after another
 abbrev pub marks_stepwise : State → List Mark → Option State
 marks_stepwise s [] = Some s
-marks_stepwise s (mark ∷ marks) = if mark_fits s mark then marks_stepwise (mark_raised s mark) marks else None
+marks_stepwise s (mark ∷ marks) =
+    if mark_fits s mark then marks_stepwise (mark_raised s mark) marks else None
 
 -- releases, one after another
 abbrev pub releases_stepwise : Effect → List ℕ → Option Effect
@@ -54,7 +59,8 @@ part_stepwise now e part = if part_fits e.state part then Some (part_made now e 
 
 -- the releases are made first, and then what arrived is dealt with
 abbrev pub arrived_stepwise : State → ℕ → List ℕ → Part → Option Effect
-arrived_stepwise s now numbers part = option_and_then (λ e. part_stepwise now e part) (releases_stepwise (begun s) numbers)
+arrived_stepwise s now numbers part =
+    option_and_then (λ e. part_stepwise now e part) (releases_stepwise (begun s) numbers)
 
 -- A record, step by step: what it does, unless a step does not fit.
 abbrev pub stepwise : State → Record → Option Effect

@@ -21,7 +21,8 @@ is_recorded _ = true
 
 -- why a queue refuses a message
 abbrev pub refusal_by : Delivery → Queue → Option Class
-refusal_by delivery q = queue_refusal q.plan (length_met (is_recorded delivery) q.lists) (is_transactional delivery)
+refusal_by delivery q =
+    queue_refusal q.plan (length_met (is_recorded delivery) q.lists) (is_transactional delivery)
 
 -- why a target refuses it
 abbrev pub target_refusal : State → Target → Delivery → Option Class

@@ -1,4 +1,5 @@
--- How a place is purged: its messages leave one after another, the oldest first, each followed by its notices.
+-- How a place is purged: its messages leave one after another, the oldest first, each
+-- followed by its notices.
 use Rattle.std.specs.Option.{option_map_or}
 use Rattle.std.specs.Prelude.{if◌then◌else◌, length, ℕ}
 use Rattle.mqb_base.specs.declared.class.TheConstants.Class.{QUEUE_PURGED}
@@ -27,7 +28,8 @@ purge_line at m = if is_queue at then line.Purged m.id else line.Emptied m.id
 
 -- the oldest message of a lane is purged
 abbrev pub message_purged : Lane → EntryPlace → ℕ → State → Message → Effect
-message_purged kind at now s m = with_line (purge_line at m) (after_purge (without_at kind s at 0) at m now)
+message_purged kind at now s m =
+    with_line (purge_line at m) (after_purge (without_at kind s at 0) at m now)
 
 -- it is purged, where there is one
 abbrev pub oldest_purged : Lane → EntryPlace → ℕ → Effect → Effect
@@ -38,6 +40,7 @@ oldest_purged kind at now e = option_map_or (λ m. joined e (message_purged kind
 abbrev pub count_at : Lane → State → EntryPlace → ℕ
 count_at kind s at = option_map_or (λ l. length (messages_in kind l)) (lists_at s.places at) 0
 
--- The messages that a lane of a place has now are purged. A notice that is put there meanwhile stays.
+-- The messages that a lane of a place has now are purged. A notice that is put
+-- there meanwhile stays.
 abbrev pub purged : Lane → EntryPlace → ℕ → Effect → Effect
 purged kind at now e = repeated (count_at kind e.state at) (oldest_purged kind at now) e

@@ -21,7 +21,8 @@ use Rattle.mqb_model.specs.state.State.{State}
 abbrev pub journalled : State → Message → State
 journalled s m = if keeps_copy m then put_at s place.Journal m else s
 
--- a message is put into a queue here and meets the class of that, or joins the plain messages for a peer
+-- a message is put into a queue here and meets the class of that, or joins the
+-- plain messages for a peer
 abbrev pub delivered : State → Target → Message → ℕ → State
 delivered s (AtPeer k) m now = placed s (AtPeer k) m
 delivered s target m now = meets (placed s target m) m REACHED_QUEUE now
@@ -36,7 +37,8 @@ committed_line s row m = line.Committed (stream_of s row) (row.committed + 1) m.
 
 -- a message of a transaction goes to a target: it joins its sequence, or is put here
 abbrev pub committed_to : ℕ → State → Target → Message → Effect
-committed_to now s (AtPeer k) m = with_line (committed_line s (sequence_for s k m.destination now) m) (join s k now m)
+committed_to now s (AtPeer k) m =
+    with_line (committed_line s (sequence_for s k m.destination now) m) (join s k now m)
 committed_to now s target m = with_line (line.Local m.id) (delivered s target m now)
 
 -- a message of a transaction is sent, and has its number

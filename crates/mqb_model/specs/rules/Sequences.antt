@@ -1,6 +1,7 @@
 -- How messages join their sequences.
 use Rattle.std.specs.Option.{option_map_or}
-use Rattle.std.specs.Prelude.{[], ◌++◌, ◌+◌, ◌||◌, ◌∷◌, Bool, None, Option, Some, if◌then◌else◌, is_some, nat_le, nat_lt, option_and_then, unwrap_or, ℕ}
+use Rattle.std.specs.Prelude.{[], ◌++◌, ◌+◌, ◌||◌, ◌∷◌, Bool, None, Option, Some, if◌then◌else◌}
+use Rattle.std.specs.Prelude.{is_some, nat_le, nat_lt, option_and_then, unwrap_or, ℕ}
 use Rattle.mqb_base.specs.declared.message.Message.{Message}
 use Rattle.mqb_base.specs.declared.queue_names.QueueName.{QueueName}
 use Rattle.mqb_orders.specs.Rows.{Row}
@@ -10,7 +11,8 @@ use Rattle.mqb_model.specs.state.State.{State}
 
 -- the sequence to a destination that takes another message: the last one, unless it is full
 abbrev pub sequence_in_use : State → ℕ → QueueName → Option Row
-sequence_in_use s peer destination = option_and_then (λ row. if nat_lt row.committed s.roll then Some row else None)
+sequence_in_use s peer destination =
+    option_and_then (λ row. if nat_lt row.committed s.roll then Some row else None)
     (last_sequence s peer destination)
 
 -- a sequence that begins
@@ -27,7 +29,8 @@ new_sequence s peer destination now = record {
 
 -- the sequence that the next message to a destination joins
 abbrev pub sequence_for : State → ℕ → QueueName → ℕ → Row
-sequence_for s peer destination now = unwrap_or (sequence_in_use s peer destination) (new_sequence s peer destination now)
+sequence_for s peer destination now =
+    unwrap_or (sequence_in_use s peer destination) (new_sequence s peer destination now)
 
 -- a row with one message more
 abbrev pub with_kept : Message → Row → Row
@@ -43,8 +46,10 @@ with_sequence s row = record s { outs = s.outs ++ row ∷ []; next_ordinal = s.n
 -- a message joins the sequence in use, or begins a new one
 abbrev pub join : State → ℕ → ℕ → Message → State
 join s peer now m = option_map_or (λ row. with_row (with_kept m) s row.sequence.ordinal)
-    (sequence_in_use s peer m.destination) (with_sequence s (with_kept m (new_sequence s peer m.destination now)))
+    (sequence_in_use s peer m.destination)
+    (with_sequence s (with_kept m (new_sequence s peer m.destination now)))
 
 -- a sequence is in use, or an ordinal is left for a new one
 abbrev pub may_join : State → ℕ → QueueName → Bool
-may_join s peer destination = is_some (sequence_in_use s peer destination) || nat_le s.next_ordinal MAX_ORDINAL
+may_join s peer destination =
+    is_some (sequence_in_use s peer destination) || nat_le s.next_ordinal MAX_ORDINAL

@@ -20,11 +20,13 @@ use Rattle.mqb_model.specs.state.State.{State}
 
 -- the message of a lane of a place at an index
 abbrev pub message_at : Lane → State → EntryPlace → ℕ → Option Message
-message_at kind s at k = option_and_then (λ l. slice_get (messages_in kind l) k) (lists_at s.places at)
+message_at kind s at k =
+    option_and_then (λ l. slice_get (messages_in kind l) k) (lists_at s.places at)
 
 -- a queue that has a journal keeps a copy there
 abbrev pub copied : State → ℕ → Message → State
-copied s number m = option_map_or (λ q. if q.plan.journal then put_at s (place.JournalOf number) m else s)
+copied s number m =
+    option_map_or (λ q. if q.plan.journal then put_at s (place.JournalOf number) m else s)
     (numbered s.places.queues number) s
 
 -- a message that was taken from a queue is copied and meets the class of a receipt
@@ -38,7 +40,8 @@ take_line at m = if is_queue at then line.Took m.id else line.Emptied m.id
 
 -- the message of a lane at an index is taken
 abbrev pub message_taken : Lane → EntryPlace → ℕ → ℕ → State → Message → Effect
-message_taken kind at k now s m = with_line (take_line at m) (after_take (without_at kind s at k) at m now)
+message_taken kind at k now s m =
+    with_line (take_line at m) (after_take (without_at kind s at k) at m now)
 
 -- it is taken, where it is there
 abbrev pub taken_at : Lane → EntryPlace → ℕ → ℕ → Effect → Effect

@@ -1,6 +1,7 @@
 -- How what is due leaves: one message after another, each followed by its notices.
 use Rattle.std.specs.Option.{option_map_or}
-use Rattle.std.specs.Prelude.{◌&&◌, ◌+◌, Bool, Option, count_by, length, nat_lt, position, slice_get, sum_by, ℕ}
+use Rattle.std.specs.Prelude.{◌&&◌, ◌+◌, Bool, Option, count_by, length, nat_lt, position}
+use Rattle.std.specs.Prelude.{slice_get, sum_by, ℕ}
 use Rattle.mqb_base.specs.Times.{is_due}
 use Rattle.mqb_base.specs.declared.class.TheConstants.Class.{REACH_TIMEOUT, RECEIVE_TIMEOUT}
 use Rattle.mqb_base.specs.declared.ledger.Line.TheVariants as line
@@ -50,7 +51,8 @@ with_expired now s k = record s { outs = with_changed (without_expired now) s.ou
 
 -- that message of the row at an index expires
 abbrev pub message_expired : ℕ → ℕ → State → Row → Kept → Effect
-message_expired now k s row kept = with_line (line.Expired (stream_of s row) kept.number kept.message.id now)
+message_expired now k s row kept =
+    with_line (line.Expired (stream_of s row) kept.number kept.message.id now)
     (meets (with_expired now s k) kept.message REACH_TIMEOUT now)
 
 -- the next message of the row at an index expires, where there is one
@@ -65,7 +67,8 @@ expiring_in now row = count_by (expires now row) row.kept
 
 -- the messages of the row at an index expire
 abbrev pub row_expired : ℕ → ℕ → Effect → Effect
-row_expired now k e = repeated (option_map_or (expiring_in now) (slice_get e.state.outs k) 0) (next_expired now k) e
+row_expired now k e =
+    repeated (option_map_or (expiring_in now) (slice_get e.state.outs k) 0) (next_expired now k) e
 
 -- Plain messages lapse.
 
@@ -85,7 +88,8 @@ lapsing kind now p = position (lapses now) (outgoing_in kind p)
 -- the next one for the peer at an index lapses, where there is one
 abbrev pub next_lapsed : Lane → ℕ → ℕ → Effect → Effect
 next_lapsed kind now k e = option_map_or (λ p. option_map_or (λ index.
-    option_map_or (λ o. joined e (message_lapsed kind now k index e.state o.message)) (slice_get (outgoing_in kind p) index) e)
+    option_map_or (λ o. joined e (message_lapsed kind now k index e.state o.message))
+    (slice_get (outgoing_in kind p) index) e)
     (lapsing kind now p) e) (slice_get e.state.plain k) e
 
 -- how many plain messages of a lane lapse
@@ -94,7 +98,9 @@ lapsing_in kind now p = count_by (lapses now) (outgoing_in kind p)
 
 -- the plain messages of a lane for the peer at an index lapse
 abbrev pub peer_lapsed : Lane → ℕ → ℕ → Effect → Effect
-peer_lapsed kind now k e = repeated (option_map_or (lapsing_in kind now) (slice_get e.state.plain k) 0) (next_lapsed kind now k) e
+peer_lapsed kind now k e =
+    repeated (option_map_or (lapsing_in kind now) (slice_get e.state.plain k) 0)
+    (next_lapsed kind now k) e
 
 -- Messages of queues are swept.
 
@@ -110,7 +116,8 @@ sweeping kind now q = position (cannot_be_received now) (messages_in kind q.list
 -- the next one of the queue at an index is swept, where there is one
 abbrev pub next_swept : Lane → ℕ → ℕ → Effect → Effect
 next_swept kind now k e = option_map_or (λ q. option_map_or (λ index.
-    option_map_or (λ m. joined e (message_swept kind now (k + 1) index e.state m)) (slice_get (messages_in kind q.lists) index) e)
+    option_map_or (λ m. joined e (message_swept kind now (k + 1) index e.state m))
+    (slice_get (messages_in kind q.lists) index) e)
     (sweeping kind now q) e) (slice_get e.state.places.queues k) e
 
 -- how many messages of a lane of a queue are swept
@@ -119,7 +126,9 @@ sweeping_in kind now q = count_by (cannot_be_received now) (messages_in kind q.l
 
 -- the messages of a lane of the queue at an index are swept
 abbrev pub queue_swept : Lane → ℕ → ℕ → Effect → Effect
-queue_swept kind now k e = repeated (option_map_or (sweeping_in kind now) (slice_get e.state.places.queues k) 0) (next_swept kind now k) e
+queue_swept kind now k e =
+    repeated (option_map_or (sweeping_in kind now) (slice_get e.state.places.queues k) 0)
+    (next_swept kind now k) e
 
 -- The whole tick.
 
@@ -127,14 +136,16 @@ queue_swept kind now k e = repeated (option_map_or (sweeping_in kind now) (slice
 abbrev pub rows_expired : ℕ → Effect → Effect
 rows_expired now e = for_each_below (length e.state.outs) (row_expired now) e
 
--- plain messages of a lane lapse, peer by peer, and then messages of queues are swept, queue by queue
+-- plain messages of a lane lapse, peer by peer, and then messages of queues are
+-- swept, queue by queue
 abbrev pub lane_ticked : Lane → ℕ → Effect → Effect
 lane_ticked kind now e = for_each_below (length e.state.places.queues) (queue_swept kind now)
     (for_each_below (length e.state.plain) (peer_lapsed kind now) e)
 
 -- how many messages of a lane are due, those of sequences left aside
 abbrev pub lane_due : Lane → State → ℕ → ℕ
-lane_due kind s now = sum_by (lapsing_in kind now) s.plain + sum_by (sweeping_in kind now) s.places.queues
+lane_due kind s now =
+    sum_by (lapsing_in kind now) s.plain + sum_by (sweeping_in kind now) s.places.queues
 
 -- how many durable messages are due
 abbrev pub durable_due : State → ℕ → ℕ

@@ -26,7 +26,9 @@ use Rattle.mqb_model.specs.declared.faults.StoreFault.{StoreFault}
 use Rattle.mqb_model.specs.declared.faults.TakeFault.{TakeFault}
 use Rattle.mqb_model.specs.managers.Manager.{Manager}
 use Rattle.mqb_model.specs.managers.Outcomes.{Outcome, failed, succeeded}
-use Rattle.mqb_model.specs.runs.Samples.{alpha, beta, manager_of, orders, own_notes, packet_at, parts_of, plan, queue_at, ready, remote_notes, with_queue_of}
+use Rattle.mqb_model.specs.runs.Samples.{alpha, beta, manager_of, orders, own_notes, packet_at}
+use Rattle.mqb_model.specs.runs.Samples.{parts_of, plan, queue_at, ready}
+use Rattle.mqb_model.specs.runs.Samples.{remote_notes, with_queue_of}
 
 -- Alpha commits one message to orders, and beta has that queue.
 
@@ -48,7 +50,8 @@ order_pump = pump committed_alpha 1001
 
 -- beta has the queue, in a session with alpha
 abbrev pub receiving_beta : Manager
-receiving_beta = ready (with_queue_of (manager_of beta alpha) (plan (codes "orders") true 100 false)) alpha
+receiving_beta =
+    ready (with_queue_of (manager_of beta alpha) (plan (codes "orders") true 100 false)) alpha
 
 -- beta hears it
 abbrev pub order_heard : HeardOutcome
@@ -100,7 +103,8 @@ copy_purged = purge taken_alpha (named.JournalOf (codes "notes")) 1002
 
 -- the message
 abbrev pub bounce_sent : Outcome (Result MessageId SendFault)
-bounce_sent = send (manager_of alpha beta) (parts_of remote_notes UNLIMITED 0 (codes "hi")) true 1000
+bounce_sent =
+    send (manager_of alpha beta) (parts_of remote_notes UNLIMITED 0 (codes "hi")) true 1000
 
 -- alpha has it, in a session with beta
 abbrev pub waiting_alpha : Manager
@@ -130,7 +134,8 @@ storage_heard = hear (succeeded waiting_alpha bounce_pump) (packet_at storage_pu
 
 -- it is committed
 abbrev pub dead_commit : Outcome (Result (List Done) CommitFault)
-dead_commit = commit (manager_of alpha beta) (asked.Send (parts_of orders UNLIMITED DEAD_LETTER (codes "one")) ∷ []) 1000
+dead_commit = commit (manager_of alpha beta)
+    (asked.Send (parts_of orders UNLIMITED DEAD_LETTER (codes "one")) ∷ []) 1000
 
 -- alpha has it, in a session with beta
 abbrev pub dead_alpha : Manager
@@ -154,7 +159,9 @@ final_pump = pump refusing_beta 1003
 
 -- alpha hears the order acknowledgement
 abbrev pub acked_dead_alpha : Manager
-acked_dead_alpha = let before = succeeded dead_alpha dead_pump in succeeded before (hear before (packet_at final_pump 0) 1004)
+acked_dead_alpha =
+    let before = succeeded dead_alpha dead_pump in
+    succeeded before (hear before (packet_at final_pump 0) 1004)
 
 -- and the final one
 abbrev pub final_heard : HeardOutcome
@@ -229,7 +236,9 @@ with_box = with_queue_of (manager_of alpha beta) (plan (codes "box") true 9 fals
 
 -- a send, and a take
 abbrev pub sent_and_taken : List Op
-sent_and_taken = asked.Send (parts_of (queue_at (codes ".") (codes "box")) UNLIMITED 0 (codes "one")) ∷ asked.Take (codes "box") ∷ []
+sent_and_taken =
+    asked.Send (parts_of (queue_at (codes ".") (codes "box")) UNLIMITED 0 (codes "one"))
+    ∷ asked.Take (codes "box") ∷ []
 
 -- The disk fails under the transaction.
 

@@ -1,5 +1,6 @@
 -- Two managers, and what they are given in small runs.
-use Rattle.std.specs.Prelude.{[], ◌∷◌, Bool, List, None, Option, Some, codes, false, map, slice_get, unwrap_or, ℕ}
+use Rattle.std.specs.Prelude.{[], ◌∷◌, Bool, List, None, Option, Some, codes, false, map, slice_get}
+use Rattle.std.specs.Prelude.{unwrap_or, ℕ}
 use Rattle.mqb_base.specs.declared.draft.Parts.{Parts}
 use Rattle.mqb_base.specs.declared.heads.TxHead.{TxHead}
 use Rattle.mqb_base.specs.declared.ids.Identity.{Identity}
@@ -28,7 +29,10 @@ use Rattle.mqb_model.specs.state.State.{empty}
 abbrev pub alpha : Identity
 alpha = record {
   host = codes "alpha";
-  guid = record { 0 = 0x0A ∷ 0x0B ∷ 0x0C ∷ 0x0D ∷ 0x11 ∷ 0x12 ∷ 0x13 ∷ 0x14 ∷ 0x15 ∷ 0x16 ∷ 0x17 ∷ 0x18 ∷ 0x19 ∷ 0x1A ∷ 0x1B ∷ 0x1C ∷ [] };
+  guid = record {
+    0 = 0x0A ∷ 0x0B ∷ 0x0C ∷ 0x0D ∷ 0x11 ∷ 0x12 ∷ 0x13 ∷ 0x14 ∷ 0x15 ∷ 0x16 ∷ 0x17 ∷ 0x18 ∷ 0x19
+        ∷ 0x1A ∷ 0x1B ∷ 0x1C ∷ [];
+  };
   address = 10 ∷ 0 ∷ 0 ∷ 1 ∷ [];
 }
 
@@ -36,7 +40,10 @@ alpha = record {
 abbrev pub beta : Identity
 beta = record {
   host = codes "beta";
-  guid = record { 0 = 0x2A ∷ 0x2B ∷ 0x2C ∷ 0x2D ∷ 0x31 ∷ 0x32 ∷ 0x33 ∷ 0x34 ∷ 0x35 ∷ 0x36 ∷ 0x37 ∷ 0x38 ∷ 0x39 ∷ 0x3A ∷ 0x3B ∷ 0x3C ∷ [] };
+  guid = record {
+    0 = 0x2A ∷ 0x2B ∷ 0x2C ∷ 0x2D ∷ 0x31 ∷ 0x32 ∷ 0x33 ∷ 0x34 ∷ 0x35 ∷ 0x36 ∷ 0x37 ∷ 0x38 ∷ 0x39
+        ∷ 0x3A ∷ 0x3B ∷ 0x3C ∷ [];
+  };
   address = 10 ∷ 0 ∷ 0 ∷ 2 ∷ [];
 }
 
@@ -109,11 +116,13 @@ ids_of messages = map (λ m. m.id) messages
 
 -- a session that is ready, with windows of 64 on both sides
 abbrev pub ready_session : Identity → Identity → one_end.State
-ready_session own other = record (new_initiator own.guid other.guid 64) { phase = phase.Ready; peer_window = 64 }
+ready_session own other =
+    record (new_initiator own.guid other.guid 64) { phase = phase.Ready; peer_window = 64 }
 
 -- a manager whose session with another is ready
 abbrev pub ready : Manager → Identity → Manager
-ready m other = record m { rest = record m.rest { session = Some (ready_session m.state.identity other) } }
+ready m other =
+    record m { rest = record m.rest { session = Some (ready_session m.state.identity other) } }
 
 -- the packet of a pump at an index, or else a session acknowledgement
 abbrev pub packet_at : {A : Type 0} → Outcome A → ℕ → Packet

@@ -1,6 +1,7 @@
 -- Where the names of queues lead.
 use Rattle.std.specs.Option.{option_map_or}
-use Rattle.std.specs.Prelude.{◌&&◌, ◌||◌, Bool, List, Option, Some, codes, false, if◌then◌else◌, option_map, position, slice_get, true, ℕ}
+use Rattle.std.specs.Prelude.{◌&&◌, ◌||◌, Bool, List, Option, Some, codes, false, if◌then◌else◌}
+use Rattle.std.specs.Prelude.{option_map, position, slice_get, true, ℕ}
 use Rattle.mqb_base.specs.Same.{same_bytes, same_guid, same_ignoring_case}
 use Rattle.mqb_base.specs.declared.ids.Guid.{Guid}
 use Rattle.mqb_base.specs.declared.ids.Identity.{Identity}

@@ -1,6 +1,8 @@
--- The rows of a state: outgoing ones by their ordinals, incoming ones by their sources and destinations.
+-- The rows of a state: outgoing ones by their ordinals, incoming ones by their
+-- sources and destinations.
 use Rattle.std.specs.List.{last_or}
-use Rattle.std.specs.Prelude.{◌&&◌, ◌==◌, Bool, None, Option, filter, option_and_then, position, slice_get, ℕ}
+use Rattle.std.specs.Prelude.{◌&&◌, ◌==◌, Bool, None, Option, filter, option_and_then, position}
+use Rattle.std.specs.Prelude.{slice_get, ℕ}
 use Rattle.mqb_base.specs.Same.{same_guid, same_name}
 use Rattle.mqb_base.specs.declared.ids.Guid.{Guid}
 use Rattle.mqb_base.specs.declared.ledger.Stream.{Stream}
@@ -21,11 +23,13 @@ row_of_ordinal s ordinal = first_where (has_ordinal ordinal) s.outs
 
 -- it is changed, and the others stay
 abbrev pub with_row : (Row → Row) → State → ℕ → State
-with_row change s ordinal = record s { outs = with_first_changed change (has_ordinal ordinal) s.outs }
+with_row change s ordinal =
+    record s { outs = with_first_changed change (has_ordinal ordinal) s.outs }
 
 -- the stream of an outgoing row
 abbrev pub stream_of : State → Row → Stream
-stream_of s row = record { source = s.identity.guid; destination = row.destination; sequence = row.sequence }
+stream_of s row =
+    record { source = s.identity.guid; destination = row.destination; sequence = row.sequence }
 
 -- the last sequence to a destination at a peer
 abbrev pub last_sequence : State → ℕ → QueueName → Option Row
@@ -33,7 +37,8 @@ last_sequence s peer destination = last_or None (filter (leads_to peer destinati
 
 -- an incoming row of a source and a destination
 abbrev pub is_row_of : Guid → QueueName → InRow → Bool
-is_row_of source destination row = same_guid row.source source && same_name row.destination destination
+is_row_of source destination row =
+    same_guid row.source source && same_name row.destination destination
 
 -- the index of the incoming row to which a message belongs
 abbrev pub in_index : State → Message → Option ℕ

@@ -1,4 +1,5 @@
--- What one manager keeps: what its store stands for, and beside it the express messages, the marks of plain messages, and the next express number.
+-- What one manager keeps: what its store stands for, and beside it the express messages, the marks
+-- of plain messages, and the next express number.
 use Rattle.std.specs.Prelude.{[], List, ℕ}
 use Rattle.mqb_base.specs.declared.ids.Identity.{Identity}
 use Rattle.mqb_orders.specs.Rows.{Row}

@@ -1,6 +1,7 @@
 -- Which states are valid.
 use Rattle.std.specs.List.{list_any}
-use Rattle.std.specs.Prelude.{[], ◌++◌, ◌+◌, ◌<◌, ◌||◌, ◌∷◌, ◌≡◌, ◌≤◌, All, AllPairs, Bool, IfSome, IsTrue, List, false, flat_map, length, map, true, ℕ}
+use Rattle.std.specs.Prelude.{[], ◌++◌, ◌+◌, ◌<◌, ◌||◌, ◌∷◌, ◌≡◌, ◌≤◌, All, AllPairs, Bool, IfSome}
+use Rattle.std.specs.Prelude.{IsTrue, List, false, flat_map, length, map, true, ℕ}
 use Rattle.mqb_base.specs.Messages.{IsWellFormed}
 use Rattle.mqb_base.specs.QueueNames.{names_queue}
 use Rattle.mqb_base.specs.Same.{same_guid, same_id}
@@ -17,7 +18,8 @@ use Rattle.mqb_packet.specs.declared.packet.Headers.{Headers}
 use Rattle.mqb_packet.specs.declared.packet.Headers.TheVariants as headers
 use Rattle.mqb_plain.specs.Lists.{messages_of}
 use Rattle.mqb_queue.specs.Places.{Queue}
-use Rattle.mqb_model.specs.declared.limits.TheConstants.{MAX_NUMBER, MAX_ORDINAL, MAX_PEERS, MAX_QUEUES, MAX_ROLL}
+use Rattle.mqb_model.specs.declared.limits.TheConstants.{MAX_NUMBER, MAX_ORDINAL, MAX_PEERS}
+use Rattle.mqb_model.specs.declared.limits.TheConstants.{MAX_QUEUES, MAX_ROLL}
 use Rattle.mqb_model.specs.records.Applying.{is_roll}
 use Rattle.mqb_model.specs.records.Packets.{is_recoverable, is_too_large}
 use Rattle.mqb_model.specs.records.Peer.{is_met, is_taken_by}
@@ -125,4 +127,5 @@ pub record IsValidState (s : State) : Type 0 where
   pub settings : AreSettings s
   -- identifiers are the manager's own, and differ
   pub own : All (IsOwn s.identity.guid s.next_number) (kept_messages s ++ recoverable_messages s)
-  pub ids_differ : AllPairs (λ a b. same_id a.id b.id ≡ false) (kept_messages s ++ recoverable_messages s)
+  pub ids_differ :
+      AllPairs (λ a b. same_id a.id b.id ≡ false) (kept_messages s ++ recoverable_messages s)

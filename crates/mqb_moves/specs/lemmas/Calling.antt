@@ -2,7 +2,8 @@
 use Rattle.std.proofs.Common.{inl, inr, ap, refl, sym, subst, ◌∙◌, arith, cond}
 use Rattle.std.proofs.lemmas.Bool.Decides.{nat_tests}
 use Rattle.std.specs.Option.{option_map_or}
-use Rattle.std.specs.Prelude.{[], ◌+◌, ◌==◌, ◌≡◌, Bool, Err, None, Option, Result, Some, false, length, true, ℕ}
+use Rattle.std.specs.Prelude.{[], ◌+◌, ◌==◌, ◌≡◌, Bool, Err, None, Option, Result, Some, false}
+use Rattle.std.specs.Prelude.{length, true, ℕ}
 use Rattle.mqb_base.specs.declared.ids.Guid.{Guid}
 use Rattle.mqb_outside.specs.Disk.{View}
 use Rattle.mqb_outside.specs.Images.{Each}
@@ -51,11 +52,14 @@ doubt_by true r down = refl
 doubt_by false r down = absurd (down refl)
 
 -- its entry is in doubt then
-pub doubt_is : (m : ManagerState) → (IsUp m → ⊥) → doubt_of (manager_of m).condition ≡ record_of m.store.entry
+pub doubt_is : (m : ManagerState) → (IsUp m → ⊥)
+    → doubt_of (manager_of m).condition ≡ record_of m.store.entry
 doubt_is m down = doubt_by m.store.journal.down (record_of m.store.entry) down
 
-well : {V E : Type 0} (memory broken : E) (d e : View) (m n : ManagerState) (o : Outcome (Result V E)) (r : Result V E) → IsCall memory broken d e m n o r
-    → is_down (manager_of m) ≡ false → (r ≡ Err broken → ⊥) → r ≡ o.answer → Succeeds m n o → Went d e m n o r
+well : {V E : Type 0} (memory broken : E) (d e : View) (m n : ManagerState)
+    (o : Outcome (Result V E)) (r : Result V E) → IsCall memory broken d e m n o r
+    → is_down (manager_of m) ≡ false → (r ≡ Err broken → ⊥) → r ≡ o.answer → Succeeds m n o
+    → Went d e m n o r
 well memory broken d e m n o r call up whole answer left = record {
   answer = answer;
   left = left;
@@ -77,9 +81,12 @@ well memory broken d e m n o r call up whole answer left = record {
     still_up : IsUp n
     still_up = up_of n (ap is_down left.manager ∙ up)
 
--- a call of a manager that is up, which answers neither that memory ran out nor that the disk failed
-pub went_well : {V E : Type 0} (memory broken : E) (d e : View) (m n : ManagerState) (o : Outcome (Result V E)) (r : Result V E) → IsCall memory broken d e m n o r
-    → is_down (manager_of m) ≡ false → (r ≡ Err memory → ⊥) → (r ≡ Err broken → ⊥) → Went d e m n o r
+-- a call of a manager that is up, which answers neither that memory ran out nor
+-- that the disk failed
+pub went_well : {V E : Type 0} (memory broken : E) (d e : View) (m n : ManagerState)
+    (o : Outcome (Result V E)) (r : Result V E) → IsCall memory broken d e m n o r
+    → is_down (manager_of m) ≡ false → (r ≡ Err memory → ⊥) → (r ≡ Err broken → ⊥)
+    → Went d e m n o r
 went_well memory broken d e m n o r call up rich whole = at call.ends
   where
     at : Ends memory broken m n o r → Went d e m n o r
@@ -95,8 +102,10 @@ pub none_more : (n : ℕ) → n ≡ n + 0
 none_more n = omega arith
 
 -- one that answers that it failed, which the definition never answers
-pub broke : {V E : Type 0} (memory broken : E) (d e : View) (m n : ManagerState) (o : Outcome (Result V E)) (r : Result V E) → IsCall memory broken d e m n o r
-    → is_down (manager_of m) ≡ false → (memory ≡ broken → ⊥) → (o.answer ≡ Err broken → ⊥) → r ≡ Err broken → (how : Failure)
+pub broke : {V E : Type 0} (memory broken : E) (d e : View) (m n : ManagerState)
+    (o : Outcome (Result V E)) (r : Result V E) → IsCall memory broken d e m n o r
+    → is_down (manager_of m) ≡ false → (memory ≡ broken → ⊥) → (o.answer ≡ Err broken → ⊥)
+    → r ≡ Err broken → (how : Failure)
     → IsMove d e (seat_of m) (seat_of n) o (Some how)
 broke {V} {E} memory broken d e m n o r call up differ never failed_so how = at call.ends
   where
@@ -109,7 +118,9 @@ broke {V} {E} memory broken d e m n o r call up differ never failed_so how = at 
         whole = ap (λ (g : Guid). length g.0) f.guid ∙ held.whole;
         on = λ now. absurd (never_both true refl (sym (ap is_down f.manager) ∙ now));
         settled = λ now. absurd (never_both true refl (sym (ap is_down f.manager) ∙ now));
-        opens = λ down. subst (λ (o : Option Record). Each e.leaves (Opens n.store.journal n.store.state o)) (sym (doubt_is n (not_up_of n down)))
+        opens = λ down.
+            subst (λ (o : Option Record). Each e.leaves (Opens n.store.journal n.store.state o))
+            (sym (doubt_is n (not_up_of n down)))
             (call.doubt (held.on up) (held.settled up) (not_up_of n down));
       };
       faults = call.rose failed_so;
@@ -123,20 +134,32 @@ broke {V} {E} memory broken d e m n o r call up differ never failed_so how = at 
 
 -- The lines of a call's record: those of the last record, where there is one more.
 pub lines_told : {A : Type 0} (m n : ManagerState) (o : Outcome A) → Succeeds m n o
-    → cond (n.store.journal.count == m.store.journal.count) [] n.store.lines ≡ lines_after (manager_of m) o
+    → cond (n.store.journal.count == m.store.journal.count) [] n.store.lines
+    ≡ lines_after (manager_of m) o
 lines_told m n o left = at o.entry left.count left.lines
   where
-    at : (r : Option Record) → n.store.journal.count ≡ m.store.journal.count + option_map_or (λ _. 1) r 0 → n.store.lines ≡ option_map_or (lines_of m.store.state) r m.store.lines
-        → cond (n.store.journal.count == m.store.journal.count) [] n.store.lines ≡ option_map_or (lines_of m.store.state) r []
-    at None count lines = let same : (n.store.journal.count == m.store.journal.count) ≡ true = grind (arith, nat_tests) in rw same refl
-    at (Some r) count lines = let differ : (n.store.journal.count == m.store.journal.count) ≡ false = grind (arith, nat_tests) in rw differ lines
+    at : (r : Option Record)
+        → n.store.journal.count ≡ m.store.journal.count + option_map_or (λ _. 1) r 0
+        → n.store.lines ≡ option_map_or (lines_of m.store.state) r m.store.lines
+        → cond (n.store.journal.count == m.store.journal.count) [] n.store.lines
+        ≡ option_map_or (lines_of m.store.state) r []
+    at None count lines =
+        let same : (n.store.journal.count == m.store.journal.count) ≡ true =
+        grind (arith, nat_tests) in rw same refl
+    at (Some r) count lines =
+        let differ : (n.store.journal.count == m.store.journal.count) ≡ false =
+        grind (arith, nat_tests) in rw differ lines
 
 -- A manager that is down makes no call.
-pub refused_while_down : {V E : Type 0} → RefusedIsSame → (d : View) (s : SeatState) (o : Outcome (Result V E)) (r : Result V E) → IsValidManager (seated s) → o ≡ answering (seated s) r
+pub refused_while_down : {V E : Type 0} → RefusedIsSame
+    → (d : View) (s : SeatState) (o : Outcome (Result V E)) (r : Result V E)
+    → IsValidManager (seated s) → o ≡ answering (seated s) r
     → IsMove d d s s o None
 refused_while_down {V} {E} same d s o r valid is = record {
-  manager = sym (ap (λ (q : Outcome (Result V E)). succeeded (seated s) q) is ∙ same (seated s) true valid);
-  counted = none_more (records_of s) ∙ ap (λ (q : Outcome (Result V E)). records_of s + option_map_or (λ _. 1) q.entry 0) (sym is);
+  manager = sym
+      (ap (λ (q : Outcome (Result V E)). succeeded (seated s) q) is ∙ same (seated s) true valid);
+  counted = none_more (records_of s)
+      ∙ ap (λ (q : Outcome (Result V E)). records_of s + option_map_or (λ _. 1) q.entry 0) (sym is);
   fails_where = λ none. absurd (let no : ⊥ = cc in no);
   held = λ held. held;
   faults = refl;

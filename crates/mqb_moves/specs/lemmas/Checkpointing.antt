@@ -34,8 +34,10 @@ never_both : (b : Bool) → b ≡ true → b ≡ false → ⊥
 never_both true is not = let none : ⊥ = cc in none
 never_both false is not = let none : ⊥ = cc in none
 
-module _ (d e : View) (m n : ManagerState) (r : Result (Unit {0}) CheckpointFault) (made : IsCheckpoint d e m n r) (up : is_down (manager_of m) ≡ false) where
-  went : (r ≡ Err fault.DiskFault → ⊥) → r ≡ (checkpoint_of m).answer → Succeeds m n (checkpoint_of m)
+module _ (d e : View) (m n : ManagerState) (r : Result (Unit {0}) CheckpointFault)
+    (made : IsCheckpoint d e m n r) (up : is_down (manager_of m) ≡ false) where
+  went : (r ≡ Err fault.DiskFault → ⊥) → r ≡ (checkpoint_of m).answer
+      → Succeeds m n (checkpoint_of m)
       → (r ≡ (checkpoint_of m).answer) × IsRewriting d e (seat_of m) (seat_of n) None
   went whole answer left = (
     answer,
@@ -62,25 +64,30 @@ module _ (d e : View) (m n : ManagerState) (r : Result (Unit {0}) CheckpointFaul
       → (r ≡ (checkpoint_of m).answer) × IsRewriting d e (seat_of m) (seat_of n) None
   rewrote rich whole = at made.ends
     where
-      at : EndsCheckpoint m n r → (r ≡ (checkpoint_of m).answer) × IsRewriting d e (seat_of m) (seat_of n) None
+      at : EndsCheckpoint m n r
+          → (r ≡ (checkpoint_of m).answer) × IsRewriting d e (seat_of m) (seat_of n) None
       at (inl h) = went whole h.0 h.1
       at (inr (inl h)) = absurd (rich h.0)
       at (inr (inr h)) = absurd (whole h.0)
 
   -- one that answers that it failed, which the definition never answers
-  pub broke_rewriting : r ≡ Err fault.DiskFault → (how : Failure) → IsRewriting d e (seat_of m) (seat_of n) (Some how)
+  pub broke_rewriting : r ≡ Err fault.DiskFault → (how : Failure)
+      → IsRewriting d e (seat_of m) (seat_of n) (Some how)
   broke_rewriting failed how = at made.ends
     where
       by : FailsWithout m n → IsRewriting d e (seat_of m) (seat_of n) (Some how)
       by f = record {
-        manager = f.manager ∙ ap (failed_under (manager_of m)) (sym (unrecorded (manager_of m) (is_too_far m.store.journal)));
+        manager = f.manager ∙ ap (failed_under (manager_of m))
+            (sym (unrecorded (manager_of m) (is_too_far m.store.journal)));
         counted = f.count ∙ none_more m.store.journal.count;
         fails_where = λ _. f.touches;
         held = λ held. record {
           whole = ap (λ (g : Guid). length g.0) f.guid ∙ held.whole;
           on = λ now. absurd (never_both true refl (sym (ap is_down f.manager) ∙ now));
           settled = λ now. absurd (never_both true refl (sym (ap is_down f.manager) ∙ now));
-          opens = λ down. subst (λ (o : Option Record). Each e.leaves (Opens n.store.journal n.store.state o)) (sym (doubt_is n (not_up_of n down)))
+          opens = λ down.
+              subst (λ (o : Option Record). Each e.leaves (Opens n.store.journal n.store.state o))
+              (sym (doubt_is n (not_up_of n down)))
               (made.doubt (held.on up) (held.settled up) (not_up_of n down));
         };
         faults = made.rose failed;
@@ -88,15 +95,20 @@ module _ (d e : View) (m n : ManagerState) (r : Result (Unit {0}) CheckpointFaul
       }
 
       at : EndsCheckpoint m n r → IsRewriting d e (seat_of m) (seat_of n) (Some how)
-      at (inl h) = absurd (never_failed (manager_of m) (is_too_far m.store.journal) (sym h.0 ∙ failed))
+      at (inl h) =
+          absurd (never_failed (manager_of m) (is_too_far m.store.journal) (sym h.0 ∙ failed))
       at (inr (inl h)) = absurd (differ (errs fault.Memory fault.DiskFault (sym h.0 ∙ failed)))
       at (inr (inr h)) = by h.1
 
 -- A manager that is down writes nothing.
-pub refused_rewriting : RefusedIsSame → (d : View) (s : SeatState) → IsValidManager (seated s) → is_down (seated s) ≡ true → IsRewriting d d s s None
+pub refused_rewriting : RefusedIsSame → (d : View) (s : SeatState) → IsValidManager (seated s)
+    → is_down (seated s) ≡ true → IsRewriting d d s s None
 refused_rewriting same d s valid down = record {
-  manager = sym (ap (λ (o : Outcome (Result (Unit {0}) CheckpointFault)). succeeded (seated s) o) (refused_down (seated s) (is_far_on s) down) ∙ same (seated s) true valid);
-  counted = none_more (records_of s) ∙ ap (λ (q : Option Record). records_of s + option_map_or (λ _. 1) q 0) (sym (unrecorded (seated s) (is_far_on s)));
+  manager = sym (ap (λ (o : Outcome (Result (Unit {0}) CheckpointFault)). succeeded (seated s) o)
+      (refused_down (seated s) (is_far_on s) down) ∙ same (seated s) true valid);
+  counted = none_more (records_of s)
+      ∙ ap (λ (q : Option Record). records_of s + option_map_or (λ _. 1) q 0)
+      (sym (unrecorded (seated s) (is_far_on s)));
   fails_where = λ none. absurd (let no : ⊥ = cc in no);
   held = λ held. held;
   faults = refl;

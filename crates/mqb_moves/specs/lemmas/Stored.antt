@@ -20,7 +20,8 @@ use Rattle.mqb_moves.specs.Holding.{StaysStored}
 pub unchanged_held : (d e : View) (s : SeatState) → Unchanged d e → IsHeldOn d s → IsHeldOn e s
 unchanged_held d e s same held = record {
   whole = held.whole;
-  on = λ up. on_told d e s.manager.store.journal s.manager.store.state (held.on up) same.reads.none_new;
+  on = λ up.
+      on_told d e s.manager.store.journal s.manager.store.state (held.on up) same.reads.none_new;
   settled = λ up c left. same.reads.none_lost c (held.settled up c (same.leaves.none_new c left));
   opens = λ down c left. held.opens down c (same.leaves.none_new c left);
 }
@@ -38,18 +39,21 @@ stored_held d s t stays held = at (is_down (seated s)) refl
     at false up = record {
       whole = ap (λ (j : JournalState). length j.guid.0) stays.journal ∙ held.whole;
       on = λ _. subst (λ (j : JournalState). IsOn d j t.manager.store.state) (sym stays.journal)
-          (on_beside d s.manager.store.journal s.manager.store.state t.manager.store.state stays.durable (held.on up));
+          (on_beside d s.manager.store.journal s.manager.store.state t.manager.store.state
+          stays.durable (held.on up));
       settled = λ _. held.settled up;
       opens = λ down. absurd (clash true refl (sym (sym stays.down ∙ down) ∙ up));
     }
 
 -- A call without a record leaves what the store has.
-pub quiet_stores : {A : Type 0} (m n : ManagerState) (o : Outcome A) → LeavesStore (manager_of m) o → o.entry ≡ None → is_down (manager_of m) ≡ false → Succeeds m n o
+pub quiet_stores : {A : Type 0} (m n : ManagerState) (o : Outcome A) → LeavesStore (manager_of m) o
+    → o.entry ≡ None → is_down (manager_of m) ≡ false → Succeeds m n o
     → n.store.journal ≡ m.store.journal → StaysStored (seat_of m) (seat_of n)
 quiet_stores m n o leaves none up left journal = record {
   same = λ down. absurd (clash true refl (sym down ∙ up));
   journal = journal;
-  durable = ap (λ (k : Manager). durable k.state) left.manager ∙ leaves ∙ ap (λ (r : Option Record). durable (recorded m.store.state r)) none;
+  durable = ap (λ (k : Manager). durable k.state) left.manager ∙ leaves
+      ∙ ap (λ (r : Option Record). durable (recorded m.store.state r)) none;
   down = ap is_down left.manager;
 }
 

@@ -1,5 +1,6 @@
 -- A GUID's text by the reader of all forms, at 36 characters.
-use Rattle.std.proofs.Common.{◌≡◌, ◌≤◌, ◌<◌, ℕ, List, length, take, Option, Some, None, true, false, refl, sym, arith, length-take, true≢false}
+use Rattle.std.proofs.Common.{◌≡◌, ◌≤◌, ◌<◌, ℕ, List, length, take, Option, Some, None, true, false}
+use Rattle.std.proofs.Common.{refl, sym, arith, length-take, true≢false}
 use Rattle.std.proofs.lemmas.Bool.Decides.{nat_tests}
 use Rattle.std.proofs.lemmas.List.{length-take-le}
 use Rattle.uuid.specs.Text.{parsed, parsed_hyphenated}

@@ -1,7 +1,8 @@
 -- Every printed name is read again, so no two names are printed alike.
 use Rattle.std.proofs.Common.{◌≡◌, Result, Ok, sym, ap, ◌∙◌}
 use Rattle.mqb_base.specs.declared.queue_names.QueueName.{QueueName}
-use Rattle.mqb_base.specs.declared.queue_names.QueueName.TheVariants.{Public, Private, Direct, Machine}
+use Rattle.mqb_base.specs.declared.queue_names.QueueName.TheVariants.{Public, Private}
+use Rattle.mqb_base.specs.declared.queue_names.QueueName.TheVariants.{Direct, Machine}
 use Rattle.mqb_names.specs.declared.faults.PartFault.{PartFault}
 use Rattle.mqb_names.specs.Printed.{printed}
 use Rattle.mqb_names.specs.Reading.{name_of}
@@ -21,5 +22,7 @@ read name = Ok name
 same_read : (a b : QueueName) → read a ≡ read b → a ≡ b
 same_read a b e = cc
 
-pub printed_apart : (a b : QueueName) → IsQueueName a → IsQueueName b → printed a ≡ printed b → a ≡ b
-printed_apart a b is_a is_b alike = same_read a b (sym (printed_again a is_a) ∙ ap name_of alike ∙ printed_again b is_b)
+pub printed_apart : (a b : QueueName) → IsQueueName a → IsQueueName b
+    → printed a ≡ printed b → a ≡ b
+printed_apart a b is_a is_b alike =
+    same_read a b (sym (printed_again a is_a) ∙ ap name_of alike ∙ printed_again b is_b)

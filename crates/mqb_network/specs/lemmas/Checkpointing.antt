@@ -13,16 +13,21 @@ pub unrecorded : (m : Manager) (far : Bool) → (checkpoint m far).entry ≡ Non
 unrecorded m far = at (is_down m) far (is_large m.state)
   where
     at : (down far large : Bool)
-        → (unless m (cond down (Some fault.Down) (cond far (Some fault.TooFar) (cond large (Some fault.TooLarge) None))) (checkpoint_made m)).entry ≡ None
+        → (unless m (cond down (Some fault.Down)
+        (cond far (Some fault.TooFar) (cond large (Some fault.TooLarge) None)))
+        (checkpoint_made m)).entry ≡ None
     at true far large = refl
     at false true large = refl
     at false false true = refl
     at false false false = refl
 
 -- A manager that is down says so, whether its store is too far on or not.
-pub refused_down : (m : Manager) (far : Bool) → is_down m ≡ true → checkpoint m far ≡ answering m (Err fault.Down)
+pub refused_down : (m : Manager) (far : Bool) → is_down m ≡ true
+    → checkpoint m far ≡ answering m (Err fault.Down)
 refused_down m far down =
-    ap (λ (b : Bool). unless m (cond b (Some fault.Down) (cond far (Some fault.TooFar) (cond (is_large m.state) (Some fault.TooLarge) None))) (checkpoint_made m)) down
+    ap (λ (b : Bool). unless m (cond b (Some fault.Down)
+    (cond far (Some fault.TooFar) (cond (is_large m.state) (Some fault.TooLarge) None)))
+    (checkpoint_made m)) down
 
 -- an answer says that the disk failed
 abbrev says_failed : Result (Unit {0}) CheckpointFault → Bool
@@ -31,10 +36,13 @@ says_failed _ = false
 
 -- It never says so: that is for the code alone.
 pub never_failed : (m : Manager) (far : Bool) → (checkpoint m far).answer ≡ Err fault.DiskFault → ⊥
-never_failed m far same = true≢false (sym (ap says_failed same) ∙ at (is_down m) far (is_large m.state))
+never_failed m far same =
+    true≢false (sym (ap says_failed same) ∙ at (is_down m) far (is_large m.state))
   where
     at : (down far large : Bool)
-        → says_failed (unless m (cond down (Some fault.Down) (cond far (Some fault.TooFar) (cond large (Some fault.TooLarge) None))) (checkpoint_made m)).answer ≡ false
+        → says_failed (unless m (cond down (Some fault.Down)
+        (cond far (Some fault.TooFar) (cond large (Some fault.TooLarge) None)))
+        (checkpoint_made m)).answer ≡ false
     at true far large = refl
     at false true large = refl
     at false false true = refl
@@ -44,6 +52,8 @@ never_failed m far same = true≢false (sym (ap says_failed same) ∙ at (is_dow
 pub far_calls_none : (m : Manager) → (checkpoint m true).touches ≡ false
 far_calls_none m = at (is_down m)
   where
-    at : (down : Bool) → (unless m (cond down (Some fault.Down) (Some fault.TooFar)) (checkpoint_made m)).touches ≡ false
+    at : (down : Bool)
+        → (unless m (cond down (Some fault.Down) (Some fault.TooFar)) (checkpoint_made m)).touches
+        ≡ false
     at true = refl
     at false = refl

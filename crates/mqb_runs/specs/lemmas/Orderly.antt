@@ -17,6 +17,7 @@ hosts_apart (suc i) (suc zero) d less inside = absurd (omega (arith, less))
 hosts_apart (suc i) (suc (suc j)) d less inside = absurd (omega (arith, inside))
 
 -- connections, sessions and identities go together
-pub run_is_orderly : RunsHaveHistories → HistoriesAreOrderly → (ms : List Move) → IsRun hosts ms → IsOrderly hosts (after_run hosts ms)
+pub run_is_orderly : RunsHaveHistories → HistoriesAreOrderly → (ms : List Move) → IsRun hosts ms
+    → IsOrderly hosts (after_run hosts ms)
 run_is_orderly runs orderly ms run = let history = (runs hosts ms hosts_apart run (λ _. false)).0 in
     subst (IsOrderly hosts) history.2 (orderly hosts history.0 hosts_apart history.1)

@@ -1,5 +1,7 @@
 -- What was put is read again, whatever follows.
-use Rattle.std.proofs.Common.{◌≡◌, ℕ, ◌+◌, ◌-◌, ◌^◌, ◌<◌, Bool, true, false, cond, ltb, List, ◌++◌, length, drop, Ok, refl, sym, ap, ◌∙◌, arith, length-append, length-drop}
+use Rattle.std.proofs.Common.{◌≡◌, ℕ, ◌+◌, ◌-◌, ◌^◌, ◌<◌, Bool, true, false, cond, ltb, List, ◌++◌}
+use Rattle.std.proofs.Common.{length, drop, Ok, refl, sym, ap, ◌∙◌, arith}
+use Rattle.std.proofs.Common.{length-append, length-drop}
 use Rattle.std.proofs.lemmas.Bool.{le-ltb}
 use Rattle.std.proofs.lemmas.List.{take_at, drop_at, drop-drop}
 use Rattle.mqb_base.specs.declared.heads.SessionHead.{SessionHead}
@@ -11,7 +13,9 @@ use Rattle.mqb_setup.specs.declared.internal.Establish.{Establish}
 use Rattle.mqb_setup.specs.declared.internal.Parameters.{Parameters}
 use Rattle.mqb_setup.specs.declared.internal.Internal.{Internal}
 use Rattle.mqb_setup.specs.declared.internal.Internal.TheVariants as part
-use Rattle.mqb_setup.specs.Internals.{establish_at, filler, internal_at, parameters_at, plain_establish, plain_internal, plain_parameters, type_of, is_refused}
+use Rattle.mqb_setup.specs.Internals.{establish_at, filler, internal_at, parameters_at}
+use Rattle.mqb_setup.specs.Internals.{plain_establish, plain_internal, plain_parameters}
+use Rattle.mqb_setup.specs.Internals.{type_of, is_refused}
 use Rattle.mqb_setup.specs.Sessions.{session_at, plain_session}
 use Rattle.mqb_setup.specs.Widths.{IsSessionHead, IsEstablish, IsParameters, IsInternal}
 use Rattle.mqb_setup.specs.lemmas.Parts.{length_filler}
@@ -20,26 +24,37 @@ use Rattle.mqb_setup.specs.lemmas.Parts.{length_filler}
 abbrev pub Stands : Reading → List ℕ → List ℕ → Type 0
 Stands r part rest = rest_of r ≡ part ++ rest
 
-part_again : (r : Reading) (part rest : List ℕ) (count : ℕ) → length part ≡ count → Stands r part rest → part_at count r ≡ Ok (part, moved count r)
+part_again : (r : Reading) (part rest : List ℕ) (count : ℕ) → length part ≡ count
+    → Stands r part rest → part_at count r ≡ Ok (part, moved count r)
 part_again r part rest count len e =
-    let left : length r.bytes - r.at ≡ length part + length rest = sym (length-drop r.at r.bytes) ∙ ap length e ∙ length-append part rest in
-    let enough : ltb (length r.bytes - r.at) count ≡ false = le-ltb _ _ (omega (arith, left, len)) in
+    let left : length r.bytes - r.at ≡ length part + length rest =
+    sym (length-drop r.at r.bytes) ∙ ap length e ∙ length-append part rest in
+    let enough : ltb (length r.bytes - r.at) count ≡ false =
+    le-ltb _ _ (omega (arith, left, len)) in
     rw (enough, e, take_at part rest count len) refl
 
-rest_again : (r : Reading) (part rest : List ℕ) (count : ℕ) → length part ≡ count → Stands r part rest → rest_of (moved count r) ≡ rest
-rest_again r part rest count len e = sym (drop-drop count r.at r.bytes) ∙ ap (drop count) e ∙ drop_at part rest count len
+rest_again : (r : Reading) (part rest : List ℕ) (count : ℕ) → length part ≡ count
+    → Stands r part rest → rest_of (moved count r) ≡ rest
+rest_again r part rest count len e =
+    sym (drop-drop count r.at r.bytes) ∙ ap (drop count) e ∙ drop_at part rest count len
 
-number_again : (r : Reading) (width number : ℕ) (rest : List ℕ) → length (bytes_of width number) ≡ width → number < 256 ^ width → Stands r (bytes_of width number) rest
+number_again : (r : Reading) (width number : ℕ) (rest : List ℕ) → length (bytes_of width number)
+    ≡ width → number < 256 ^ width → Stands r (bytes_of width number) rest
     → number_at width r ≡ Ok (number, moved width r)
-number_again r width number rest len fits e = rw (part_again r (bytes_of width number) rest width len e, number_back width number fits) refl
+number_again r width number rest len fits e =
+    rw (part_again r (bytes_of width number) rest width len e, number_back width number fits) refl
 
-guid_again : (r : Reading) (guid rest : List ℕ) → length guid ≡ 16 → Stands r (swapped guid) rest → guid_at r ≡ Ok (guid, moved 16 r)
-guid_again r guid rest len e = rw (part_again r (swapped guid) rest 16 refl e, swapped_twice guid len) refl
+guid_again : (r : Reading) (guid rest : List ℕ) → length guid ≡ 16 → Stands r (swapped guid) rest
+    → guid_at r ≡ Ok (guid, moved 16 r)
+guid_again r guid rest len e =
+    rw (part_again r (swapped guid) rest 16 refl e, swapped_twice guid len) refl
 
-after_again : (r : Reading) (part rest : List ℕ) (count : ℕ) → length part ≡ count → Stands r part rest → after count r ≡ Ok (moved count r)
+after_again : (r : Reading) (part rest : List ℕ) (count : ℕ) → length part ≡ count
+    → Stands r part rest → after count r ≡ Ok (moved count r)
 after_again r part rest count len e = rw (part_again r part rest count len e) refl
 
-pub session_again : (r : Reading) (h : SessionHead) (rest : List ℕ) → IsSessionHead h → Stands r (plain_session h) rest → session_at r ≡ Ok (h, moved 16 r)
+pub session_again : (r : Reading) (h : SessionHead) (rest : List ℕ) → IsSessionHead h
+    → Stands r (plain_session h) rest → session_at r ≡ Ok (h, moved 16 r)
 unfolding session_at
 session_again r h rest fits e =
     let t6 = bytes_of 2 0 ++ rest in
@@ -71,7 +86,8 @@ session_again r h rest fits e =
     )
     (ap (λ (at : ℕ). Ok (h, record { bytes = r.bytes; at = at })) (omega arith))
 
-establish_again : (r : Reading) (e : Establish) (rest : List ℕ) → IsEstablish e → Stands r (plain_establish e) rest → establish_at e.refused r ≡ Ok (e, moved 552 r)
+establish_again : (r : Reading) (e : Establish) (rest : List ℕ) → IsEstablish e
+    → Stands r (plain_establish e) rest → establish_at e.refused r ≡ Ok (e, moved 552 r)
 unfolding establish_at
 establish_again r e rest fits s =
     let t4 = filler ++ rest in
@@ -95,7 +111,8 @@ establish_again r e rest fits s =
     )
     (ap (λ (at : ℕ). Ok (e, record { bytes = r.bytes; at = at })) (omega arith))
 
-parameters_again : (r : Reading) (p : Parameters) (rest : List ℕ) → IsParameters p → Stands r (plain_parameters p) rest → parameters_at r ≡ Ok (p, moved 12 r)
+parameters_again : (r : Reading) (p : Parameters) (rest : List ℕ) → IsParameters p
+    → Stands r (plain_parameters p) rest → parameters_at r ≡ Ok (p, moved 12 r)
 unfolding parameters_at
 parameters_again r p rest fits e =
     let t3 = bytes_of 2 p.window ++ rest in
@@ -131,7 +148,8 @@ refused_again : (refused : Bool) → is_refused (establish_flags refused) ≡ re
 refused_again true = refl
 refused_again false = refl
 
-pub internal_again : (r : Reading) (p : Internal) (rest : List ℕ) → IsInternal p → Stands r (plain_internal p) rest
+pub internal_again : (r : Reading) (p : Internal) (rest : List ℕ) → IsInternal p
+    → Stands r (plain_internal p) rest
     → internal_at r ≡ Ok (p, moved (length (plain_internal p)) r)
 unfolding internal_at
 internal_again r (part.Ack h) rest fits e =
@@ -140,7 +158,11 @@ internal_again r (part.Ack h) rest fits e =
     let r1 = moved 2 r in
     let e1 = rest_again r (bytes_of 2 1) t1 2 refl e in
     let e2 = rest_again r1 (bytes_of 2 0) t2 2 refl e1 in
-    rw (number_again r 2 1 t1 refl (omega arith) e, after_again r1 (bytes_of 2 0) t2 2 refl e1, session_again (moved 2 r1) h rest fits e2)
+    rw (
+      number_again r 2 1 t1 refl (omega arith) e,
+      after_again r1 (bytes_of 2 0) t2 2 refl e1,
+      session_again (moved 2 r1) h rest fits e2,
+    )
     (ap (λ (at : ℕ). Ok (part.Ack h, record { bytes = r.bytes; at = at })) (omega arith))
 internal_again r (part.Establish e) rest fits s =
     let flags = establish_flags e.refused in
@@ -156,12 +178,17 @@ internal_again r (part.Establish e) rest fits s =
       after_again r1 (bytes_of 2 0) t2 2 refl s1,
       establish_again (moved 2 r1) e rest fits s2,
     )
-    (ap (λ (at : ℕ). Ok (part.Establish e, record { bytes = r.bytes; at = at })) (omega (arith, length_filler)))
+    (ap (λ (at : ℕ). Ok (part.Establish e, record { bytes = r.bytes; at = at }))
+    (omega (arith, length_filler)))
 internal_again r (part.Parameters p) rest fits e =
     let t2 = plain_parameters p ++ rest in
     let t1 = bytes_of 2 0 ++ t2 in
     let r1 = moved 2 r in
     let e1 = rest_again r (bytes_of 2 3) t1 2 refl e in
     let e2 = rest_again r1 (bytes_of 2 0) t2 2 refl e1 in
-    rw (number_again r 2 3 t1 refl (omega arith) e, after_again r1 (bytes_of 2 0) t2 2 refl e1, parameters_again (moved 2 r1) p rest fits e2)
+    rw (
+      number_again r 2 3 t1 refl (omega arith) e,
+      after_again r1 (bytes_of 2 0) t2 2 refl e1,
+      parameters_again (moved 2 r1) p rest fits e2,
+    )
     (ap (λ (at : ℕ). Ok (part.Parameters p, record { bytes = r.bytes; at = at })) (omega arith))

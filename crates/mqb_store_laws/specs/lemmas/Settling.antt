@@ -14,10 +14,12 @@ use Rattle.mqb_store_laws.specs.Settling.{OnlySettles}
 
 -- calls that only read
 pub reads_settle : (d e : View) → OnlyReads d e → OnlySettles d e
-reads_settle d e reads = record { reads = reads.unchanged.reads; run = reads.run; switch = reads.switch }
+reads_settle d e reads =
+    record { reads = reads.unchanged.reads; run = reads.run; switch = reads.switch }
 
 -- a sync
-pub sync_settles : (d e : View) → Lawful d → Same d.reads e.reads → Each e.leaves d.leaves → Elapses d e → e.switch ≡ d.switch → OnlySettles d e
+pub sync_settles : (d e : View) → Lawful d → Same d.reads e.reads → Each e.leaves d.leaves
+    → Elapses d e → e.switch ≡ d.switch → OnlySettles d e
 sync_settles d e law same fewer time switch = record {
   reads = same;
   run = goes_on d d e d.leaves (started d d.leaves law (λ c left. left)) time fewer;
@@ -35,13 +37,16 @@ settles_then d e f first second = record {
   switch = second.switch ∙ first.switch;
 }
 
-pub on_settled : (d e : View) (j : JournalState) (s : State) → IsOn d j s → OnlySettles d e → IsOn e j s
+pub on_settled : (d e : View) (j : JournalState) (s : State) → IsOn d j s → OnlySettles d e
+    → IsOn e j s
 on_settled d e j s on settles = on_told d e j s on settles.reads.none_new
 
 pub settled_still : (d e : View) → IsSettled d → OnlySettles d e → IsSettled e
-settled_still d e settled settles c left = settles.reads.none_lost c (settled c (settles.run.now c left))
+settled_still d e settled settles c left =
+    settles.reads.none_lost c (settled c (settles.run.now c left))
 
-pub lent_settled : (d e : View) (s : ScanState) (base : Base) (records : List (List ℕ)) → Lent d s base records → OnlySettles d e → Lent e s base records
+pub lent_settled : (d e : View) (s : ScanState) (base : Base) (records : List (List ℕ))
+    → Lent d s base records → OnlySettles d e → Lent e s base records
 lent_settled d e s base records lent settles = record {
   first = lent.first;
   behind = lent.behind;

@@ -17,8 +17,10 @@ not_more : (j k : JournalState) → k.count ≡ j.count → HasOneMore j k → �
 not_more j k same more = omega (arith, same, more)
 
 -- It fails, or there is nothing to write.
-pub writes_none : (d e : View) (j k : JournalState) (entry : List ℕ) (r : Option Record) → k.count ≡ j.count
-    → ((base : Base) (entries : List (List ℕ)) → GoesOn d j base entries → IsSettled d → LeavesOnly d e (IsBeforeOrAfter j.guid.0 base entries entry)) → AtMost 4 d.calls e.calls
+pub writes_none : (d e : View) (j k : JournalState) (entry : List ℕ) (r : Option Record)
+    → k.count ≡ j.count
+    → ((base : Base) (entries : List (List ℕ)) → GoesOn d j base entries → IsSettled d
+    → LeavesOnly d e (IsBeforeOrAfter j.guid.0 base entries entry)) → AtMost 4 d.calls e.calls
     → WritesOne d e j k entry r
 writes_none d e j k entry r same moments most = record {
   reads = λ more. absurd (not_more j k same more);
@@ -29,15 +31,20 @@ writes_none d e j k entry r same moments most = record {
 }
 
 -- The disk is not called.
-pub writes_nothing : (d : View) (j k : JournalState) (entry : List ℕ) (r : Option Record) → Lawful d → k.count ≡ j.count → WritesOne d d j k entry r
+pub writes_nothing : (d : View) (j k : JournalState) (entry : List ℕ) (r : Option Record) → Lawful d
+    → k.count ≡ j.count → WritesOne d d j k entry r
 writes_nothing d j k entry r law same = writes_none d d j k entry r same
-    (λ base entries on settled. started d (IsBeforeOrAfter j.guid.0 base entries entry) law (λ c left. inl (goes_on_stands d j base entries on c (settled c left))))
+    (λ base entries on settled. started d (IsBeforeOrAfter j.guid.0 base entries entry) law
+    (λ c left. inl (goes_on_stands d j base entries on c (settled c left))))
     (at_most_none 4 d.calls)
 
 -- It goes well.
-pub writes_entry : (d e : View) (j k : JournalState) (entry : List ℕ) (r : Option Record) → record_of entry ≡ r → IsSettled e
-    → ((base : Base) (entries : List (List ℕ)) → GoesOn d j base entries → GoesOn e k base (entries ++ entry ∷ []))
-    → ((base : Base) (entries : List (List ℕ)) → GoesOn d j base entries → IsSettled d → LeavesOnly d e (IsBeforeOrAfter j.guid.0 base entries entry)) → AtMost 4 d.calls e.calls
+pub writes_entry : (d e : View) (j k : JournalState) (entry : List ℕ) (r : Option Record)
+    → record_of entry ≡ r → IsSettled e
+    → ((base : Base) (entries : List (List ℕ)) → GoesOn d j base entries
+    → GoesOn e k base (entries ++ entry ∷ []))
+    → ((base : Base) (entries : List (List ℕ)) → GoesOn d j base entries → IsSettled d
+    → LeavesOnly d e (IsBeforeOrAfter j.guid.0 base entries entry)) → AtMost 4 d.calls e.calls
     → WritesOne d e j k entry r
 writes_entry d e j k entry r reads settled joins moments most = record {
   reads = λ more. reads;

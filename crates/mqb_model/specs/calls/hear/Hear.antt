@@ -1,6 +1,7 @@
 -- The call hear: the first rule that fits decides.
 use Rattle.std.specs.Option.{option_map_or}
-use Rattle.std.specs.Prelude.{◌<◌, ◌^◌, ◌≤◌, Bool, Err, IfSome, None, Option, Some, false, if◌then◌else◌, is_some, true, ℕ}
+use Rattle.std.specs.Prelude.{◌<◌, ◌^◌, ◌≤◌, Bool, Err, IfSome, None, Option, Some, false}
+use Rattle.std.specs.Prelude.{if◌then◌else◌, is_some, true, ℕ}
 use Rattle.mqb_base.specs.declared.heads.SessionHead.{SessionHead}
 use Rattle.mqb_base.specs.declared.heard.Heard.TheVariants as heard
 use Rattle.mqb_packet.specs.mqb_heads.declared.base.TheConstants.{MAX_PACKET}
@@ -13,7 +14,8 @@ use Rattle.mqb_session.specs.State as one_end
 use Rattle.mqb_session.specs.declared.heads.HeadHeard.{HeadHeard}
 use Rattle.mqb_session.specs.declared.heads.HeadHeard.TheVariants as head
 use Rattle.mqb_model.specs.calls.hear.Plain.{hear_plain}
-use Rattle.mqb_model.specs.calls.hear.Session.{HeardOutcome, Listening, ack_heard, by_session, hear_set_up, heard_as, user_heard}
+use Rattle.mqb_model.specs.calls.hear.Session.{HeardOutcome, Listening, ack_heard, by_session}
+use Rattle.mqb_model.specs.calls.hear.Session.{hear_set_up, heard_as, user_heard}
 use Rattle.mqb_model.specs.calls.hear.Streams.{hear_in_stream}
 use Rattle.mqb_model.specs.declared.faults.HearFault.{HearFault}
 use Rattle.mqb_model.specs.declared.faults.HearFault.TheVariants as fault
@@ -37,7 +39,8 @@ abbrev pub BearsNumber : Packet → Type 0
 BearsNumber (packet.User p) = IfSome p.session IsHead
 BearsNumber _ = Unit {0}
 
--- A packet that can be heard, as each can that was read: it could be written, and is not longer than a packet can be.
+-- A packet that can be heard, as each can that was read: it could be written, and is not longer
+-- than a packet can be.
 pub record IsReadable (p : Packet) : Type 0 where
   pub well_formed : IsWellFormedPacket p
   pub names : BearsNames p
@@ -66,10 +69,13 @@ hear_acknowledgement m now _ session = heard_as (listening m session now) Nothin
 
 -- a linked manager hears a packet
 abbrev pub hear_linked : Manager → ℕ → Packet → one_end.State → HeardOutcome
-hear_linked m now (packet.Establish e) session = hear_set_up m (on_establish e (is_some (peer_known m.state e.client)) session)
+hear_linked m now (packet.Establish e) session =
+    hear_set_up m (on_establish e (is_some (peer_known m.state e.client)) session)
 hear_linked m now (packet.Parameters p) session = hear_set_up m (on_parameters p session)
-hear_linked m now (packet.Ack h) session = let given = ack_heard h session in hear_acknowledgement m now given.0 given.1
-hear_linked m now (packet.User p) session = let given = user_heard m.state session p in hear_behind m now p given.0 given.1
+hear_linked m now (packet.Ack h) session =
+    let given = ack_heard h session in hear_acknowledgement m now given.0 given.1
+hear_linked m now (packet.User p) session =
+    let given = user_heard m.state session p in hear_behind m now p given.0 given.1
 
 -- the first reason against it, the session left aside
 abbrev pub hear_refusal : Manager → Option HearFault

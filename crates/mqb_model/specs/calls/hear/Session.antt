@@ -1,7 +1,9 @@
--- What a session makes of a packet: a closed one answers its cause (rule 1), set-up packets go by the phase table (2), others close it before it
--- is ready (3), and so do packets from or for another manager (4) and headers that acknowledge more than was sent (5).
+-- What a session makes of a packet: a closed one answers its cause (rule 1), set-up packets go by
+-- the phase table (2), others close it before it is ready (3), and so do packets from or for
+-- another manager (4) and headers that acknowledge more than was sent (5).
 use Rattle.std.specs.Option.{option_map_or}
-use Rattle.std.specs.Prelude.{[], ◌&&◌, ◌==◌, Bool, List, None, Ok, Option, Result, Some, false, filter, if◌then◌else◌, length, map, not, slice_get, unwrap_or, ℕ}
+use Rattle.std.specs.Prelude.{[], ◌&&◌, ◌==◌, Bool, List, None, Ok, Option, Result, Some, false}
+use Rattle.std.specs.Prelude.{filter, if◌then◌else◌, length, map, not, slice_get, unwrap_or, ℕ}
 use Rattle.mqb_base.specs.Same.{same_guid}
 use Rattle.mqb_base.specs.declared.heads.SessionHead.{SessionHead}
 use Rattle.mqb_base.specs.declared.heard.Cause.TheVariants as cause
@@ -84,11 +86,14 @@ released_of number p = map (λ o. o.message.id.number) (filter (is_sent_by numbe
 
 -- the numbers that a header releases
 abbrev pub numbers_released : Listening → List ℕ
-numbers_released l = option_map_or (released_of l.session.recoverable_acked) (slice_get l.manager.state.plain (peer_heard l)) []
+numbers_released l = option_map_or (released_of l.session.recoverable_acked)
+    (slice_get l.manager.state.plain (peer_heard l)) []
 
--- What is released stands in the one record of what arrived. Where nothing is released and nothing arrived, there is no record.
+-- What is released stands in the one record of what arrived. Where nothing is released and nothing
+-- arrived, there is no record.
 abbrev pub arrival_entry : Listening → Part → Option Record
-arrival_entry l Nothing = if length (numbers_released l) == 0 then None else Some (entry.Arrived l.now (numbers_released l) Nothing)
+arrival_entry l Nothing = if length (numbers_released l) == 0 then None
+    else Some (entry.Arrived l.now (numbers_released l) Nothing)
 arrival_entry l part = Some (entry.Arrived l.now (numbers_released l) part)
 
 -- the express messages that a header acknowledges leave

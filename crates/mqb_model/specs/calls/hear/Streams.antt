@@ -1,8 +1,10 @@
--- Messages of streams are judged, whether or not they are in order (7), and those of another class than the ordinary one are discarded (8).
--- Order acknowledgements are heard, whether or not they are in order (9).
+-- Messages of streams are judged, whether or not they are in order (7), and those of another
+-- class than the ordinary one are discarded (8). Order acknowledgements are heard, whether or not
+-- they are in order (9).
 use Rattle.std.specs.List.{list_any}
 use Rattle.std.specs.Option.{option_map_or}
-use Rattle.std.specs.Prelude.{◌&&◌, ◌+◌, ◌==◌, Bool, None, Option, Some, false, if◌then◌else◌, length, slice_set, true, unwrap_or, ℕ}
+use Rattle.std.specs.Prelude.{◌&&◌, ◌+◌, ◌==◌, Bool, None, Option, Some, false, if◌then◌else◌}
+use Rattle.std.specs.Prelude.{length, slice_set, true, unwrap_or, ℕ}
 use Rattle.mqb_base.specs.Sequences.{same_sequence}
 use Rattle.mqb_base.specs.declared.class.Class.{Class}
 use Rattle.mqb_base.specs.declared.class.TheConstants.Class.{ORDER_ACKNOWLEDGEMENT}
@@ -19,7 +21,8 @@ use Rattle.mqb_orders.specs.declared.judging.Verdict.{Verdict}
 use Rattle.mqb_orders.specs.declared.judging.Verdict.TheVariants as verdict
 use Rattle.mqb_packet.specs.declared.packet.UserPacket.{UserPacket}
 use Rattle.mqb_model.specs.Lists.{grown}
-use Rattle.mqb_model.specs.calls.hear.Session.{HeardOutcome, Listening, discarded, heard_as, peer_heard}
+use Rattle.mqb_model.specs.calls.hear.Session.{HeardOutcome, Listening, discarded}
+use Rattle.mqb_model.specs.calls.hear.Session.{heard_as, peer_heard}
 use Rattle.mqb_model.specs.managers.Manager.{Rest}
 use Rattle.mqb_model.specs.records.Arrived.{raises_ack}
 use Rattle.mqb_model.specs.records.Record.{Decided, Nothing, OrderAcknowledged}
@@ -48,7 +51,8 @@ index_for s m = unwrap_or (in_index s m) (length s.ins)
 
 -- the row is there, and has this sequence
 abbrev pub has_sequence : State → Message → TxHead → Bool
-has_sequence s m tx = option_map_or (λ row. same_sequence row.sequence tx.sequence) (in_row s m) false
+has_sequence s m tx =
+    option_map_or (λ row. same_sequence row.sequence tx.sequence) (in_row s m) false
 
 -- a message that is next is decided, and its row owes
 abbrev pub hear_next : Listening → UserPacket → TxHead → HeardOutcome
@@ -80,7 +84,8 @@ hear_in_stream l p tx = if is_ordinary p.message
 
 -- an express message for the order layer, of the class of order acknowledgements
 abbrev pub may_acknowledge : State → Message → Bool
-may_acknowledge s m = is_express m.delivery && m.class.0 == ORDER_ACKNOWLEDGEMENT.0 && is_for_order_layer s m.destination
+may_acknowledge s m = is_express m.delivery && m.class.0 == ORDER_ACKNOWLEDGEMENT.0
+    && is_for_order_layer s m.destination
 
 -- what a message acknowledges, where it is an order acknowledgement
 abbrev pub acknowledged_in : State → Message → Option OrderAck
@@ -88,7 +93,8 @@ acknowledged_in s m = if may_acknowledge s m then acked_by m.body else None
 
 -- it raises the mark of a row to a peer
 abbrev pub raises : ℕ → OrderAck → Row → Bool
-raises peer ack row = row.peer == peer && same_sequence row.sequence ack.sequence && raises_ack ack.number row
+raises peer ack row =
+    row.peer == peer && same_sequence row.sequence ack.sequence && raises_ack ack.number row
 
 -- the part of a record, and the answer
 abbrev pub order_acked : Listening → OrderAck → HeardOutcome

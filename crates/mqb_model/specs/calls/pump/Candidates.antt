@@ -1,6 +1,8 @@
 -- The packets that could go to a peer, in the order in which they go.
 use Rattle.std.specs.List.{enumerate_from}
-use Rattle.std.specs.Prelude.{[], ◌&&◌, ◌++◌, ◌==◌, ◌∷◌, Bool, List, None, Option, Some, filter, filter_map, flat_map, if◌then◌else◌, is_none, map, max, nat_lt, zip, ℕ}
+use Rattle.std.specs.Prelude.{[], ◌&&◌, ◌++◌, ◌==◌, ◌∷◌, Bool, List, None, Option, Some, filter}
+use Rattle.std.specs.Prelude.{filter_map, flat_map, if◌then◌else◌, is_none, map, max, nat_lt}
+use Rattle.std.specs.Prelude.{zip, ℕ}
 use Rattle.mqb_base.specs.Same.{same_guid}
 use Rattle.mqb_base.specs.declared.heads.TxHead.{TxHead}
 use Rattle.mqb_base.specs.declared.ids.Guid.{Guid}
@@ -32,7 +34,8 @@ ack_of row = record { sequence = row.sequence; number = row.last }
 
 -- a row of the peer that owes, and its index
 abbrev pub owed_to : Guid → ℕ × (InRow × Bool) → Option (ℕ × InRow)
-owed_to peer given = if given.1.1 && same_guid given.1.0.source peer then Some (given.0, given.1.0) else None
+owed_to peer given =
+    if given.1.1 && same_guid given.1.0.source peer then Some (given.0, given.1.0) else None
 
 -- all of them
 abbrev pub rows_owing : State → Rest → Guid → List (ℕ × InRow)
@@ -49,7 +52,8 @@ ack_candidate s peer now number row = record {
 -- those of all rows, numbered one after another
 abbrev pub acks : State → Identity → ℕ → ℕ → List (ℕ × InRow) → List Candidate
 acks s peer now number [] = []
-acks s peer now number (row ∷ rows) = ack_candidate s peer now number row ∷ acks s peer now (express_after number) rows
+acks s peer now number (row ∷ rows) =
+    ack_candidate s peer now number row ∷ acks s peer now (express_after number) rows
 
 -- Then plain messages that were not sent in this connection, recoverable ones before express ones.
 
@@ -61,17 +65,23 @@ unsent_from origin o = if is_none o.mark
 
 -- those of a peer
 abbrev pub plain_candidates : PlainLists → List Candidate
-plain_candidates p = filter_map (unsent_from OfRecoverable) p.recoverable ++ filter_map (unsent_from OfExpress) p.express
+plain_candidates p = filter_map (unsent_from OfRecoverable) p.recoverable
+    ++ filter_map (unsent_from OfExpress) p.express
 
 -- Then messages of streams, row by row.
 
 -- the transaction header of a kept message, which names the kept one before it
 abbrev pub tx_of : Row → Kept → TxHead
-tx_of row k = record { sequence = row.sequence; number = k.number; previous = link_before row.acked row.kept k.number }
+tx_of row k = record {
+  sequence = row.sequence;
+  number = k.number;
+  previous = link_before row.acked row.kept k.number;
+}
 
 -- a kept number of the row at an index
 abbrev pub of_row : ℕ → Row → Kept → Candidate
-of_row index row k = record { origin = OfRow index k.number; message = k.message; tx = Some (tx_of row k) }
+of_row index row k =
+    record { origin = OfRow index k.number; message = k.message; tx = Some (tx_of row k) }
 
 -- the kept numbers above the acknowledged one and the one that was sent last
 abbrev pub unsent_of : Row → ℕ → List Kept

@@ -1,5 +1,6 @@
 -- Which candidates go: the first ones, as many as may.
-use Rattle.std.specs.Prelude.{[], ◌&&◌, ◌+◌, ◌==◌, ◌||◌, ◌∷◌, Bool, List, None, Option, Some, fold, if◌then◌else◌, nat_le, nat_lt, ℕ}
+use Rattle.std.specs.Prelude.{[], ◌&&◌, ◌+◌, ◌==◌, ◌||◌, ◌∷◌, Bool, List, None, Option, Some, fold}
+use Rattle.std.specs.Prelude.{if◌then◌else◌, nat_le, nat_lt, ℕ}
 use Rattle.mqb_base.specs.declared.heads.SessionHead.{SessionHead}
 use Rattle.mqb_base.specs.declared.heads.TxHead.{TxHead}
 use Rattle.mqb_packet.specs.Plain.{message_size}
@@ -33,7 +34,8 @@ is_within count bytes c = count == 0 || nat_le (bytes + candidate_size c) MAX_PU
 
 -- one more may go behind so many packets and bytes
 abbrev pub may_follow : one_end.State → ℕ → ℕ → Candidate → Bool
-may_follow session count bytes c = may_send session && nat_lt count MAX_PACKETS && is_within count bytes c
+may_follow session count bytes c =
+    may_send session && nat_lt count MAX_PACKETS && is_within count bytes c
 
 -- the session once it went
 abbrev pub session_after : one_end.State → Candidate → one_end.State

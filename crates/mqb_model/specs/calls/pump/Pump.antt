@@ -1,7 +1,9 @@
 -- The call pump: which packets go, and what is then known of them.
 use Rattle.std.specs.List.{enumerate_from}
 use Rattle.std.specs.Option.{option_map_or}
-use Rattle.std.specs.Prelude.{[], ◌&&◌, ◌==◌, ◌∷◌, Err, List, None, Ok, Option, Result, Some, false, filter_map, fold, if◌then◌else◌, length, map, max, nat_lt, not, slice_get, slice_set, ℕ}
+use Rattle.std.specs.Prelude.{[], ◌&&◌, ◌==◌, ◌∷◌, Err, List, None, Ok, Option, Result, Some, false}
+use Rattle.std.specs.Prelude.{filter_map, fold, if◌then◌else◌, length, map, max, nat_lt, not}
+use Rattle.std.specs.Prelude.{slice_get, slice_set, ℕ}
 use Rattle.mqb_base.specs.Times.{remaining}
 use Rattle.mqb_base.specs.declared.heads.SessionHead.{SessionHead}
 use Rattle.mqb_base.specs.declared.ids.Guid.{Guid}
@@ -86,21 +88,24 @@ marks_for s cs = filter_map (mark_for cs) (enumerate_from 0 s.outs)
 
 -- where no mark rises there is no record
 abbrev pub offered_entry : State → List Candidate → Option entry.Record
-offered_entry s cs = if length (marks_for s cs) == 0 then None else Some (entry.Offered (marks_for s cs))
+offered_entry s cs =
+    if length (marks_for s cs) == 0 then None else Some (entry.Offered (marks_for s cs))
 
 -- The whole call.
 
 -- these packets go to the peer at an index
 abbrev pub sending_all : Manager → ℕ → one_end.State → ℕ → Guid → List Candidate → PumpOutcome
 sending_all m now session k to cs = writing (offered_entry m.state cs)
-    (record (resting m (with_session (settled m.rest cs) (session_behind session cs)) (Ok (length cs))) {
+    (record (resting m (with_session (settled m.rest cs) (session_behind session cs))
+    (Ok (length cs))) {
       beside = beside.NotesSent k (map origin_of (with_heads session cs));
       packets = map (packet_for to now) (with_heads session cs);
     })
 
 -- one packet of the session itself goes
 abbrev pub sending_one : Manager → Packet → one_end.State → PumpOutcome
-sending_one m p session = record (resting m (with_session m.rest session) (Ok 1)) { packets = p ∷ [] }
+sending_one m p session =
+    record (resting m (with_session m.rest session) (Ok 1)) { packets = p ∷ [] }
 
 -- where nothing is chosen, a session acknowledgement goes that is owed
 abbrev pub sending_ack : Manager → one_end.State → PumpOutcome
@@ -121,12 +126,14 @@ pump_with m now session k to cs = if is_spent session && not (length cs == 0)
 
 -- the candidates for a peer are found
 abbrev pub pump_to : Manager → ℕ → one_end.State → ℕ → Identity → PlainLists → PumpOutcome
-pump_to m now session k peer p = pump_with m now session k peer.guid (candidates m.state m.rest now k peer p)
+pump_to m now session k peer p =
+    pump_with m now session k peer.guid (candidates m.state m.rest now k peer p)
 
 -- a session sends to the peer at an index
 abbrev pub pump_at : Manager → ℕ → one_end.State → ℕ → PumpOutcome
 pump_at m now session k = option_map_or (λ peer. option_map_or (pump_to m now session k peer)
-    (slice_get m.state.plain k) (answering m (Ok 0))) (slice_get m.state.peers k) (answering m (Ok 0))
+    (slice_get m.state.plain k) (answering m (Ok 0))) (slice_get m.state.peers k)
+    (answering m (Ok 0))
 
 -- a session that is ready sends to its peer, and another one nothing
 abbrev pub pump_ready : Manager → ℕ → one_end.State → PumpOutcome

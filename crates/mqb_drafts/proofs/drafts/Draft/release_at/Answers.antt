@@ -17,7 +17,7 @@ pub returns-then-keeps_dead-clause-stays : goal.returns-then-keeps_dead-clause-s
 returns-then-keeps_dead-clause-stays c =
     let at : IsAt c.args.self.now.effect.state c.args.row c.args.index (row_of c.out.result.now) c.get.result.now = record {
       row_is = ap (λ (d : Drafted). slice_get d.effect.state.outs c.args.row) (sym c.self.view_is)
-      ∙ (ap (λ (w : WithRooms State StateRooms). slice_get w.lists.outs c.args.row) (sym c.deref.ensures) ∙ c.out.ensures.row);
+          ∙ (ap (λ (w : WithRooms State StateRooms). slice_get w.lists.outs c.args.row) (sym c.deref.ensures) ∙ c.out.ensures.row);
       kept_is = c.get.ensures.kept;
     } in
     stays_on c.args.self.now.effect.state c.args.row c.args.index (row_of c.out.result.now) c.get.result.now at (sym c.keeps_dead.ensures ∙ c.if-keeps_dead.true) c.requires.stays
@@ -26,7 +26,7 @@ pub returns-then-keeps_dead-clause-nearer : goal.returns-then-keeps_dead-clause-
 returns-then-keeps_dead-clause-nearer c =
     let at : IsAt c.args.self.now.effect.state c.args.row c.args.index (row_of c.out.result.now) c.get.result.now = record {
       row_is = ap (λ (d : Drafted). slice_get d.effect.state.outs c.args.row) (sym c.self.view_is)
-      ∙ (ap (λ (w : WithRooms State StateRooms). slice_get w.lists.outs c.args.row) (sym c.deref.ensures) ∙ c.out.ensures.row);
+          ∙ (ap (λ (w : WithRooms State StateRooms). slice_get w.lists.outs c.args.row) (sym c.deref.ensures) ∙ c.out.ensures.row);
       kept_is = c.get.ensures.kept;
     } in
     passed c.args.self.now.effect.state c.args.row c.args.index (row_of c.out.result.now) c.get.result.now at
@@ -35,7 +35,7 @@ pub take_out_kept-requires : goal.take_out_kept-requires
 take_out_kept-requires c =
     let at : IsAt c.args.self.now.effect.state c.args.row c.args.index (row_of c.out.result.now) c.get.result.now = record {
       row_is = ap (λ (d : Drafted). slice_get d.effect.state.outs c.args.row) (sym c.self.view_is)
-      ∙ (ap (λ (w : WithRooms State StateRooms). slice_get w.lists.outs c.args.row) (sym c.deref.ensures) ∙ c.out.ensures.row);
+          ∙ (ap (λ (w : WithRooms State StateRooms). slice_get w.lists.outs c.args.row) (sym c.deref.ensures) ∙ c.out.ensures.row);
       kept_is = c.get.ensures.kept;
     } in
     subst (λ (o : Option Row). IsSomeAnd o (λ r. c.args.index < length r.kept)) (sym at.row_is)
@@ -45,7 +45,7 @@ pub returns-clause-same : goal.returns-clause-same
 returns-clause-same c =
     let at : IsAt c.args.self.now.effect.state c.args.row c.args.index (row_of c.out.result.now) c.get.result.now = record {
       row_is = ap (λ (d : Drafted). slice_get d.effect.state.outs c.args.row) (sym c.self.view_is)
-      ∙ (ap (λ (w : WithRooms State StateRooms). slice_get w.lists.outs c.args.row) (sym c.deref.ensures) ∙ c.out.ensures.row);
+          ∙ (ap (λ (w : WithRooms State StateRooms). slice_get w.lists.outs c.args.row) (sym c.deref.ensures) ∙ c.out.ensures.row);
       kept_is = c.get.ensures.kept;
     } in
     ap (λ (e : Effect). with_out (releasing c.args.number) e.state c.args.row) c.in_ok-take_out_kept.ensures.ok
@@ -56,7 +56,7 @@ pub returns-clause-stays : goal.returns-clause-stays
 returns-clause-stays c =
     let at : IsAt c.args.self.now.effect.state c.args.row c.args.index (row_of c.out.result.now) c.get.result.now = record {
       row_is = ap (λ (d : Drafted). slice_get d.effect.state.outs c.args.row) (sym c.self.view_is)
-      ∙ (ap (λ (w : WithRooms State StateRooms). slice_get w.lists.outs c.args.row) (sym c.deref.ensures) ∙ c.out.ensures.row);
+          ∙ (ap (λ (w : WithRooms State StateRooms). slice_get w.lists.outs c.args.row) (sym c.deref.ensures) ∙ c.out.ensures.row);
       kept_is = c.get.ensures.kept;
     } in
     subst (λ (e : Effect). StaysBefore e.state c.args.row c.args.index) (sym c.in_ok-take_out_kept.ensures.ok)
@@ -66,7 +66,7 @@ pub returns-clause-nearer : goal.returns-clause-nearer
 returns-clause-nearer c =
     let at : IsAt c.args.self.now.effect.state c.args.row c.args.index (row_of c.out.result.now) c.get.result.now = record {
       row_is = ap (λ (d : Drafted). slice_get d.effect.state.outs c.args.row) (sym c.self.view_is)
-      ∙ (ap (λ (w : WithRooms State StateRooms). slice_get w.lists.outs c.args.row) (sym c.deref.ensures) ∙ c.out.ensures.row);
+          ∙ (ap (λ (w : WithRooms State StateRooms). slice_get w.lists.outs c.args.row) (sym c.deref.ensures) ∙ c.out.ensures.row);
       kept_is = c.get.ensures.kept;
     } in
     subst (λ (e : Effect). kept_count e.state.outs c.args.row - c.args.index < kept_count c.args.self.now.effect.state.outs c.args.row - c.args.index)
