@@ -179,6 +179,10 @@ module _ (w w_now : WorldState) (strings strings_now : List (List ℕ)) (first f
   pub flow_so : (asked : Event) (m : Which) (now : ℕ) → asked ≡ event.Flow (index_of m) now → (r : Result Reply PostFault) → IfOk r (HappensSo (event.Flow (index_of m) now) strings_now) → IfOk r (HappensSo asked strings_now)
   flow_so asked m now is r = subst (λ (a : Event). IfOk r (HappensSo a strings_now)) (sym is)
 
+  pub flow_short : (asked : Event) (m : Which) (now : ℕ) → asked ≡ event.Flow (index_of m) now → (r : Result Reply PostFault)
+      → FallsShort (network_of w) None (event_of (event.Flow (index_of m) now)) strings strings_now r → ShortAmong w asked strings strings_now r
+  flow_short asked m now is r short = subst (λ (e : Event). ShortAmong w e strings strings_now r) (sym is) (λ packets writable spelled. short)
+
   pub connect_so : (asked : Event) (m : Which) (now a b : ℕ) → asked ≡ event.Connect (index_of m) (index_of (other m)) now a b → (r : Result Reply PostFault)
       → IfOk r (HappensSo (event.Connect (index_of m) (index_of (other m)) now a b) strings_now) → IfOk r (HappensSo asked strings_now)
   connect_so asked m now a b is r = subst (λ (x : Event). IfOk r (HappensSo x strings_now)) (sym is)
