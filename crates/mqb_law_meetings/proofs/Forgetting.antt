@@ -1,13 +1,12 @@
 -- Behind the meetings that bring all over, what a row still keeps stands in a queue at its receiver.
-use Rattle.std.proofs.Common.{◌≡◌, ℕ, ◌<◌, ◌≤◌, ◌⊎◌, inl, inr, Bool, true, false, nat_lt, Some, refl, sym, ap, subst, ◌∙◌, arith}
+use Rattle.std.proofs.Common.{◌≡◌, ℕ, ◌<◌, ◌≤◌, inl, inr, Bool, true, false, nat_lt, Some, refl, sym, subst, ◌∙◌, arith}
 use Rattle.std.proofs.lemmas.Bool.{true≢false}
 use Rattle.std.proofs.lemmas.Bool.Decides.{nat_tests}
-use Rattle.std.specs.Prelude.{IsTrue, length, map}
+use Rattle.std.specs.Prelude.{IsTrue, length}
 use Rattle.mqb_base.specs.Bits.{keeps_dead}
-use Rattle.mqb_base.specs.declared.ids.Identity.{Identity}
 use Rattle.mqb_exactly_once.specs.Words.{In}
 use Rattle.mqb_history.specs.Acked.{IsDecidedThere}
-use Rattle.mqb_history.specs.Awaited.{AreFatesAwaited, AreKeptForFates, FatesAreAwaited, IsAwaited, IsHeld, WaitsToBeTold}
+use Rattle.mqb_history.specs.Awaited.{AreFatesAwaited, AreKeptForFates, FatesAreAwaited, IsAwaited, IsHeld}
 use Rattle.mqb_history.specs.Laws.{HistoriesAreOrderly, RunsHaveHistories}
 use Rattle.mqb_history.specs.Orderly.{IsOrderly}
 use Rattle.mqb_model.specs.declared.limits.TheConstants.{MAX_NUMBER}
@@ -17,7 +16,7 @@ use Rattle.mqb_network.specs.Network.{manager_at}
 use Rattle.mqb_network.specs.Runs.{after_run, course_after}
 use Rattle.mqb_orders.specs.Rows.{Row}
 use Rattle.mqb_orders.specs.declared.kept.Kept.{Kept}
-use Rattle.mqb_law_meetings.specs.Drained.{IsDrained, has_for}
+use Rattle.mqb_law_meetings.specs.Drained.{IsDrained}
 use Rattle.mqb_law_meetings.specs.Recovery.{Forgets, Recovers}
 use Rattle.mqb_law_meetings.specs.Work.{met, work}
 use Rattle.mqb_law_meetings.proofs.Delivering.{meetings_run, of_run, outstanding, plain_outstanding}
