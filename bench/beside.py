@@ -17,6 +17,8 @@ Seen of the proved program whose sum begins with 5c93fa77, with a processor of i
 millisecond besides mqb 97, 61, 51, 46 and SQLite, which syncs once, 152, 178, 175, 68; with the disk's own syncs, some 0.15 milliseconds each, mqb 86, 35, 66, 65 and SQLite 49, 128, 280, 104. A program of the same text
 that was not proved had 95 and 97, 64 and 62. Of 64 messages a manager computes 0.6 milliseconds, beside the two syncs.
 
+The one whose sum begins with 17d2e60e, likewise, where each sync waits half a millisecond besides: 64 messages 76 hundredths of the loop of two syncs, pair and flight 50 and 51; one message was quicker than the raw loop of Python.
+
 All of them, with DELAY=500, on the same machine with three times as many busy programs as processors, which blurs each number by a half and more, in hundredths of the loop of one sync, and of that of two:
 
                      put           64            pair          flight
